@@ -14,12 +14,13 @@ from pathlib import Path
 from typing import NamedTuple
 
 TOP = Path(__file__).resolve().parents[1]
-# Short lemmas that a lower crate has for its own proofs. To be shared, they would have to become public there.
+# Short lemmas that a lower crate has for its own proofs (to be shared, they would have to become public there), and one that
+# nothing names since branches are read from memory: it goes with the next change of tree_core, on which all stands.
 EXPLAINED = {
     ("catalogue_core/proofs/DistinctLists.antt", "all_so"), ("catalogue_core/proofs/OpenLemmas.antt", "housed_more"),
     ("refinement/proofs/HoldingRows.antt", "greater"), ("nested_sets/proofs/SpanTests.antt", "not_before"),
     ("nested_sets/proofs/SpanQueries.antt", "all_first"), ("nested_sets/proofs/SpanRepresentation.antt", "none_repeated"),
-    ("tree_core/proofs/TopsLemmas.antt", "last_two"), ("tree_core/proofs/Whole.antt", "behind_all"),
+    ("tree_core/proofs/TopsLemmas.antt", "last_two"), ("tree_core/proofs/TopsLemmas.antt", "below_tree"),
 }
 TOKEN = re.compile(r"[^\s(){}.;,@\"«»]+")
 MARKS = r"(?:(?:pattern|unfoldable|opaque|abbrev|pub|axiom) )*"

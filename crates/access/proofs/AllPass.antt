@@ -1,9 +1,8 @@
 -- Numbers that are looked at one by one.
-use Rattle.std.proofs.Common.{◌≡◌, ◌∙◌, ℕ, zero, suc, ◌+◌, ◌<◌, ◌≤◌, Bool, true, false, List, [], ◌∷◌, length, map}
-use Rattle.std.proofs.Common.{take, get_or, refl, sym, ap, subst, arith}
+use Rattle.std.proofs.Common.{◌≡◌, ℕ, zero, suc, ◌+◌, ◌<◌, ◌≤◌, Bool, true, false, List, [], ◌∷◌, length, take, get_or}
+use Rattle.std.proofs.Common.{refl, subst, arith}
 use Rattle.std.specs.Prelude.{◌&&◌}
-use Rattle.sqlite_trees.proofs.ListLemmas.{all-get_or}
-use Rattle.access.proofs.Common.{AllByRecursion, Mark, get_or-map, length-map, list_all}
+use Rattle.access.proofs.Common.{list_all}
 
 -- ---- one more of those that pass
 
@@ -21,7 +20,7 @@ all_more p (x ∷ xs) (suc i) low so here =
     at true so more = more so
     at false so more = absurd (cc)
 
-not_all : (p : ℕ → Bool) (xs : List ℕ) (i : ℕ) → i < length xs → p (get_or xs i 0) ≡ false → false ≡ list_all p xs
+pub not_all : (p : ℕ → Bool) (xs : List ℕ) (i : ℕ) → i < length xs → p (get_or xs i 0) ≡ false → false ≡ list_all p xs
 not_all p [] i low here = absurd (omega (arith, low))
 not_all p (x ∷ xs) zero low here = rw here refl
 not_all p (x ∷ xs) (suc i) low here = at (p x) (not_all p xs i (omega (arith, low)) here)
@@ -39,25 +38,3 @@ all_of p (x ∷ xs) (suc i) high so = at (p x) so (all_of p xs i (omega (arith, 
         → true ≡ (b && list_all p xs)
     at true so rest = rest so
     at false so rest = absurd (cc)
-
--- ---- the units of rows
-
--- what is so of all rows is so of one of them
-pub so_of_one : (P : Mark → Type 0) (rows : List Mark) (i : ℕ) (one : Mark) → one ≡ get_or rows i one
-    → AllByRecursion P rows → i < length rows → P one
-so_of_one P rows i one is all low = subst P (sym is) (all-get_or P rows i one all low)
-
-module _ (p : ℕ → Bool) (rows : List Mark) (i : ℕ) (one : Mark) (is : one ≡ get_or rows i one) (low : i < length rows)
-    (answer : Bool) (here : answer ≡ p one.id) where
-  abbrev ids : List ℕ
-  ids = map (λ (row : Mark). row.id) rows
-
-  at : answer ≡ p (get_or ids i 0)
-  at = here ∙ ap (λ (row : Mark). p row.id) is ∙ ap p (sym (get_or-map (λ (row : Mark). row.id) rows i one 0 low))
-
-  pub more_clean : answer ≡ true → list_all p (take i ids) ≡ true → list_all p (take (i + 1) ids) ≡ true
-  more_clean held so_far =
-      all_more p ids i (omega (arith, low, length-map rows (λ (row : Mark). row.id))) so_far (sym at ∙ held)
-
-  pub not_clean : answer ≡ false → false ≡ list_all p ids
-  not_clean fails = not_all p ids i (omega (arith, low, length-map rows (λ (row : Mark). row.id))) (sym at ∙ fails)

@@ -3,6 +3,7 @@
 use Rattle.std.proofs.Common.{◌≡◌, ℕ, ℤ, Bool, true, false, cond, not, ◌&&◌, List, [], ◌∷◌, ◌++◌, append_assoc, filter}
 use Rattle.std.proofs.Common.{nat_eq, Option, Some, None, refl, sym, ap, ap₂, ◌∙◌}
 use Rattle.std.specs.Prelude.{◌||◌}
+use Rattle.tree_core.proofs.LinkPaths.{parts}
 use Rattle.tree_core.proofs.SpanShifts.{cut_none}
 use Rattle.visibility.proofs.MarkWalks.{list_all-append}
 use Rattle.catalogue_core.specs.ContainerContents.{is_open}
@@ -10,7 +11,7 @@ use Rattle.access.proofs.Common.{AllByRecursion, BoxKey, Empty, Forest, HasDisti
 use Rattle.access.proofs.Common.{append-nil, branch, containers_of, cut, cut-each, each, eqb-true, filter-append}
 use Rattle.access.proofs.Common.{fun_ext, has, has-each, has_id, housed_below, is_same_box, is_some_there}
 use Rattle.access.proofs.Common.{is_withheld_from, last_or, list_all, list_any, list_any-append, names_some, near}
-use Rattle.access.proofs.Common.{nodes, option_to_list, or-false, own_or, parts, path, paths_below, tree}
+use Rattle.access.proofs.Common.{nodes, option_to_list, or-false, own_or, path, paths_below, tree}
 
 -- ---- truths
 

@@ -5,6 +5,7 @@ use Rattle.desk_core.proofs.Counts.{count_cons, count_map}
 use Rattle.desk_core.specs.DeskRows.{Desk as Rows}
 use Rattle.desk_core.specs.declared.reader.Place.{Place}
 use Rattle.desk_core.specs.declared.reader.Place.TheVariants.{Desk, Out, Shelf}
+use Rattle.desk_store.specs.Holdings.{issued_by, issued_of}
 use Rattle.desk_store.specs.Seats.{taken_seats}
 use Rattle.desk_store.specs.declared.taken_seats.TakenSeat.{TakenSeat}
 use Rattle.office_core.specs.State.{State}
@@ -15,9 +16,9 @@ use Rattle.refinement.proofs.SeatsShown.{sits_by_row}
 use Rattle.access.proofs.Common.{ContainerOrder, Order, SeatRow, Version, any_agree, are_against_rules}
 use Rattle.access.proofs.Common.{breaks_day_rules, cases_lt, cons_option, containers, count_by, has_no_row}
 use Rattle.access.proofs.Common.{has_too_many, held_count, holding_row, is_against_rules, is_by, is_closed_to}
-use Rattle.access.proofs.Common.{is_out_with, is_seated, is_without_seat, issued_by, issued_of, le-leb, le-ltb}
-use Rattle.access.proofs.Common.{list_any, list_any-map, lt-leb, lt-ltb, nth, number_occurs_more_than, opens}
-use Rattle.access.proofs.Common.{option_and_then, option_map, order_out, order_rows, some_and, tables}
+use Rattle.access.proofs.Common.{is_out_with, is_seated, is_without_seat, le-leb, le-ltb, list_any, list_any-map}
+use Rattle.access.proofs.Common.{lt-leb, lt-ltb, nth, number_occurs_more_than, opens, option_and_then, option_map}
+use Rattle.access.proofs.Common.{order_out, order_rows, some_and, tables}
 use Rattle.access.proofs.Gates.{ticket_is}
 
 -- ---- what is left of a list

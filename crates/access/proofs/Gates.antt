@@ -5,19 +5,23 @@ use Rattle.std.specs.Prelude.{◌||◌, filter, filter_map}
 use Rattle.desk_core.specs.declared.reader.Place.{Place}
 use Rattle.desk_core.specs.declared.reader.Place.TheVariants.{Desk, Out, Shelf}
 use Rattle.desk_core.specs.declared.refusal.Refusal.TheVariants.{WithReader}
+use Rattle.desk_store.specs.Holdings.{issued_by, issued_of, ticket_of}
 use Rattle.office_core.specs.State.{State}
 use Rattle.office_core.specs.declared.done.Done.{Done}
 use Rattle.refinement.proofs.RowsOfLists.{found_row}
-use Rattle.access.proofs.Common.{AreEnough, CanBeJudged, ContainerOrder, HoldingRow, IfSome, Order, OrderRow, Version}
+use Rattle.access.proofs.Common.{AreEnough, CanBeJudged, Catalogue, ContainerOrder, HoldingRow, KnowsIf, Mark, Order}
+use Rattle.access.proofs.Common.{OrderRow, TellOf, Version}
 use Rattle.access.proofs.Common.{cons_option, containers, first_closed, first_that, gate_reply, holding_row}
-use Rattle.access.proofs.Common.{is_closed_to, is_kept_from_holder, is_some, issued_by, issued_of, list_any}
-use Rattle.access.proofs.Common.{lowest_withheld, nth, opens, option_map, order_out, order_row, order_rows, slice_get}
-use Rattle.access.proofs.Common.{slice_get-get_or, slice_index_or, some_and, tables, ticket_of, unless_refused}
+use Rattle.access.proofs.Common.{is_closed_to, is_kept_from_holder, is_some, list_any, lowest_withheld, nth, opens}
+use Rattle.access.proofs.Common.{option_map, order_out, order_row, order_rows, slice_index_or, some_and, tables}
+use Rattle.access.proofs.Common.{unless_refused}
 
--- what is told of the one at a place
-pub told_at : {X : Type 0} (P : X → Type 0) (xs : List X) (i : ℕ) (d : X) → i < length xs → IfSome (slice_get xs i) P
-    → P (get_or xs i d)
-told_at P xs i d low told = subst (λ (o : Option _). IfSome o P) (slice_get-get_or xs i d low) told
+-- ---- marks that are given
+
+-- the marks of units of which no two have the same number
+pub told_if : (k : Catalogue) (given : Option (List Mark)) → KnowsIf k given → TellOf k given
+told_if k None it = tt
+told_if k (Some marks) it = it.walk
 
 -- ---- the first that passes, found one by one
 
@@ -48,10 +52,10 @@ none_more p (x ∷ xs) (suc i) d none low so = let e : suc (i + 1) ≡ suc i + 1
 -- ---- loans, of which the one at a place is asked
 
 module _ (s : State) (loans : List ContainerOrder) (i : ℕ) (d : ContainerOrder) (low : i < length loans) (yes : Bool)
-    (told : IfSome (slice_get loans i) (λ (loan : ContainerOrder). yes ≡ opens s loan.ticket loan.container))
+    (told : yes ≡ opens s (get_or loans i d).ticket (get_or loans i d).container)
     (none : first_that (is_closed_to s) (take i loans) ≡ None) where
   shut_is : is_closed_to s (get_or loans i d) ≡ not yes
-  shut_is = ap not (sym (told_at (λ (loan : ContainerOrder). yes ≡ opens s loan.ticket loan.container) loans i d low told))
+  shut_is = ap not (sym told)
 
   -- it is the first that is closed
   pub closed_here : yes ≡ false → Some (get_or loans i d).container ≡ first_closed s loans

@@ -6,24 +6,23 @@ use Rattle.sqlite.specs.State.{State}
 use Rattle.sqlite_trees.specs.declared.store.Store as store
 use Rattle.desk_core.specs.DeskRows.{Desk}
 use Rattle.catalogue_core.specs.Bounds.{IsBounded, IsKept}
-use Rattle.office_tables.proofs.CallEnds.{excused_then, same_fault}
 use Rattle.office_tables.proofs.CallEnds as calls
-use Rattle.office_tables.proofs.Sparing.{spares_full}
-use Rattle.office_tables.proofs.StoreCalls as store_calls
-use Rattle.office_tables.specs.Calls.{Answers, RepresentsAlone, StoreAnswers}
+use Rattle.office_tables.specs.Calls.{Answers, RepresentsAlone}
 use Rattle.office_tables.specs.RowNumbers.{HasNumbered, HoldsNumbered}
 use Rattle.office_tables.specs.Schema as schema
+use Rattle.office_tables.specs.Step.{IsAborted, LeavesUnchanged}
 use Rattle.office_tables.specs.TableStatements.{LooksUp}
-use Rattle.office_tables.specs.declared.fault.StoreFault.TheVariants as fault
+use Rattle.catalogue_statements.specs.Representation.{Represents, RepresentsHousings}
+use Rattle.catalogue_statements.specs.Rows.{HousingRow, housing_row}
 use Rattle.catalogue_statements.specs.declared.office.OfficeRow.{OfficeRow}
 use Rattle.desk_store.specs.Representation.{IsLegible, RepresentsDeskAlone}
 use Rattle.office_core.specs.State.{State as Office}
 use Rattle.refinement.proofs.Tellings.{looked_crash}
 use Rattle.refinement.specs.Representation.{office_of}
-use Rattle.access.proofs.Common.{CanBeJudged, Catalogue, Forest, HasCleanDisk, Held, HousingRow, IsAborted, IsErr}
-use Rattle.access.proofs.Common.{IsErrAnd, LeavesUnchanged, Represents, RepresentsHousings, RepresentsWhole, StoreFault}
-use Rattle.access.proofs.Common.{Trees, Unit, Version, cut_after, cut_then, each, early, housing_row, looks_nowhere}
-use Rattle.access.proofs.Common.{looks_passed_later, looks_then, looks_well, on_err_then, on_ok_then, state, tables, ⊤}
+use Rattle.access.proofs.Common.{CanBeJudged, Catalogue, Forest, HasCleanDisk, Held, IsErr, IsErrAnd, RepresentsWhole}
+use Rattle.access.proofs.Common.{StoreFault, Trees, Unit, Version, cut_then, each, early, excused_then, looks_nowhere}
+use Rattle.access.proofs.Common.{looks_passed_later, looks_then, looks_well, on_err_then, on_ok_then, same_fault, state}
+use Rattle.access.proofs.Common.{tables, ⊤}
 
 -- the steps changed nothing, and this is known of the model that the tables show
 pub record Learned {Stays Model : Type 0} (represents : Database → Stays → Model → Type 0) (a b : State) (fact : Stays → Model → Type 0) : Type 0 where
@@ -45,10 +44,6 @@ module _ {Stays Model : Type 0} {represents : Database → Stays → Model → T
   pub learned_nothing : {a : State} {fact : Stays → Model → Type 0} → ((s : Stays) (m : Model) → fact s m)
       → Learned represents a a fact
   learned_nothing always = record { looks = looks_nowhere; told = λ clean s m shown. always s m }
-
-  -- by steps that tell nothing
-  pub learned_looks : {a b : State} → LeavesUnchanged a b → Learned represents a b (λ _ _. ⊤)
-  learned_looks looked = record { looks = looked; told = λ clean s m shown. tt }
 
   -- by one step or several, and then by more
   pub learned_then : {a b c : State} {fact more : Stays → Model → Type 0} → Learned represents a b fact
@@ -118,38 +113,6 @@ module _ {S X Stays Model : Type 0} {g : store.Ghosts S} {represents : Database 
     fault_later looked failed =
         calls.tells_cut (same_fault handed) looked failed.aborts
         (λ s m shown allowed within at_b clean free. failed.faults s m (still_shown represents looked at_b s m shown) allowed within clean free)
-
-    -- of a later one, whose premise is known
-    pub fault_knowing : {Y : Type 0} {mid : Held S} {low : Model → Type 0} {told : Stays → Model → Y → Type 0} {fact : Stays → Model → Type 0}
-        → Learned represents (state g before) (state g mid) fact → Answers g represents mid after (Err e) low kept told
-        → ((s : Stays) (m : Model) → fact s m → low m) → Answers g represents before after r may kept answer
-    fault_knowing it failed premise =
-        calls.tells_cut (same_fault handed) it.looks failed.aborts
-        (λ s m shown allowed within at_b clean free. failed.faults s m (still_shown represents it.looks at_b s m shown) (premise s m (it.told at_b s m shown))
-        within clean free)
-
-    -- the same of a call of a store
-    pub store_fault : {Y : Type 0} {mid : Held S} {low bounds : Model → Type 0} {told : Stays → Model → Y → Type 0} {fact : Stays → Model → Type 0}
-        → Learned represents (state g before) (state g mid) fact
-        → StoreAnswers g represents mid after (Err e) low bounds told
-        → ((s : Stays) (m : Model) → fact s m → may m → kept m → low m × bounds m)
-        → StoreAnswers g represents before after r may kept answer
-    store_fault it failed within =
-        store_calls.tells_cut (same_fault handed) it.looks failed.aborts failed.spares
-        (λ s m shown allowed keeps at_b clean free.
-        let so = within s m (it.told at_b s m shown) allowed keeps in
-        failed.faults s m (still_shown represents it.looks at_b s m shown) so.0 so.1 clean free)
-
-  pub store_ends_so : {x : X} {fact : Stays → Model → Type 0} → Learned represents (state g before) (state g after) fact
-      → ((s : Stays) (m : Model) → fact s m → answer s m x)
-      → StoreAnswers g represents before after (Ok x) may kept answer
-  store_ends_so it means = store_calls.tells_well it.looks (λ clean s m shown. means s m (it.told clean s m shown))
-
-  -- there was no memory for what a call of a store has read
-  pub store_full : {r : Result X StoreFault} → IsErr r × IsErrAnd r (λ f. f ≡ fault.Memory)
-      → LeavesUnchanged (state g before) (state g after) → StoreAnswers g represents before after r may kept answer
-  store_full full looked =
-      store_calls.tells_not (same_fault full) (cut_after looked.goes.on) (spares_full looked) (λ s m shown allowed within clean free. tt)
 
 -- ---- what is told of a part of the tables, as told of all
 

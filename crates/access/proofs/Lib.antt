@@ -1,23 +1,19 @@
 pub mod Common
 pub mod BranchesApart
-pub mod AllPass
+mod AllPass
 pub mod DiskBlames
 pub mod Gates
 pub mod DayRules
 pub mod Standing
+mod FewMarks
 pub mod NamedContainers
 pub mod NearRows
-pub mod OpenByRows
+mod OpenByUnits
 pub mod OpenByPermits
 pub mod OpenElsewhere
 pub mod OpenedUnits
 pub mod Passing
-pub mod WithheldUnits
-pub mod BranchMembers
-pub mod NamedApart
-pub mod EarlyRefusals
-pub mod JointWalks
+mod ReadersMarks
 pub mod Learned
-pub mod UnnumberedMarks
-pub mod MorePermits
-pub mod TellingUnits
+mod MorePermits
+mod Unpermitted

@@ -1,13 +1,12 @@
 -- Permits only open more: a unit that nothing withholds from a reader without permits is open to everybody.
 use Rattle.std.proofs.Common.{◌≡◌, ℕ, ℤ, Bool, true, false, cond, not, List, [], ◌∷◌, ◌++◌, map, refl, sym, ap, ap₂}
-use Rattle.std.proofs.Common.{◌∙◌, nat_eq}
-use Rattle.std.specs.Prelude.{◌&&◌, ◌||◌, filter}
+use Rattle.std.proofs.Common.{◌∙◌}
+use Rattle.std.specs.Prelude.{◌&&◌, ◌||◌}
 use Rattle.visibility.specs.Visibility.{sharing_paths}
 use Rattle.desk_store.specs.declared.reader_permits.Permit.{Permit}
-use Rattle.access.proofs.Common.{Catalogue, Empty, Forest, Mark, Node, Unit, allows, and_from, and_parts, are_clean_for}
-use Rattle.access.proofs.Common.{contents_paths, each, has_id, int_le, is_clean_by_marks, is_clean_for, is_closed}
-use Rattle.access.proofs.Common.{is_opened_above, is_some_there, list_all, list_any, list_any-map, map-append, mark_for}
-use Rattle.access.proofs.Common.{mark_of, path, tree, withholds}
+use Rattle.access.proofs.Common.{Empty, Forest, Mark, Node, Unit, allows, and_from, and_parts, contents_paths, each}
+use Rattle.access.proofs.Common.{has_id, is_clean_by_marks, is_clean_for, is_closed, is_opened_above, is_some_there}
+use Rattle.access.proofs.Common.{list_all, list_any, list_any-map, map-append, mark_for, mark_of, path, tree, withholds}
 
 -- the reader has no permits
 abbrev never : ℕ → Bool
@@ -108,32 +107,13 @@ module _ (q : ℕ → Bool) (day : ℤ) where
       (ap (list_all (λ one. not (withholds day (is_opened_above (map (mark_for q) way)) one))) (ways q u below)
       ∙ all_seen_more (is_opened_above (map (mark_for q) way)) ((u ∷ []) ∷ sharing_paths (λ (unit : Unit). is_some_there unit.values.boxes) (u ∷ []) below) within)
 
-  pub clean_more : (f : Forest Unit) (id : ℕ) → is_clean_for never day f id ≡ true → is_clean_for q day f id ≡ true
+  clean_more : (f : Forest Unit) (id : ℕ) → is_clean_for never day f id ≡ true → is_clean_for q day f id ≡ true
   clean_more f id clean = clean_more_marks (path (has_id id) f) (tree (has_id id) f) clean
 
 -- units that are open to everybody, by the permits of a reader
-pub open_to_all : (day : ℤ) (permits : List Permit) (c : Catalogue) (rows : List Mark)
-    → are_clean_for day [] c rows ≡ true → are_clean_for day permits c rows ≡ true
-open_to_all day permits c [] clean = refl
-open_to_all day permits c (row ∷ rows) clean =
-    let both = and_parts (is_clean_for (allows day []) day c.forest row.id) (are_clean_for day [] c rows) clean in
-    and_from _ _ (clean_more (allows day permits) day c.forest row.id both.0) (open_to_all day permits c rows both.1)
-
--- the permits that are valid that day allow the same
-pub valid_allow : (day : ℤ) (permits : List Permit) (u : ℕ)
-    → allows day (filter (λ (permit : Permit). int_le day permit.until) permits) u ≡ allows day permits u
-valid_allow day [] u = refl
-valid_allow day (permit ∷ permits) u = at (int_le day permit.until) refl (valid_allow day permits u)
-  where
-    kept : List Permit
-    kept = filter (λ (permit : Permit). int_le day permit.until) permits
-
-    past : (b : Bool) → allows day permits u ≡ ((b && false) || allows day permits u)
-    past true = refl
-    past false = refl
-
-    at : (valid : Bool) → int_le day permit.until ≡ valid → allows day kept u ≡ allows day permits u
-        → allows day (cond valid (permit ∷ kept) kept) u ≡ ((nat_eq permit.unit u && int_le day permit.until) || allows day permits u)
-    at true is later = ap (λ b. (nat_eq permit.unit u && int_le day permit.until) || b) later
-    at false is later =
-        later ∙ past (nat_eq permit.unit u) ∙ sym (ap (λ b. (nat_eq permit.unit u && b) || allows day permits u) is)
+pub open_to_all : (day : ℤ) (permits : List Permit) (f : Forest Unit) (units : List ℕ)
+    → list_all (is_clean_for (allows day []) day f) units ≡ true → list_all (is_clean_for (allows day permits) day f) units ≡ true
+open_to_all day permits f [] clean = refl
+open_to_all day permits f (u ∷ units) clean =
+    let both = and_parts (is_clean_for (allows day []) day f u) (list_all (is_clean_for (allows day []) day f) units) clean in
+    and_from _ _ (clean_more (allows day permits) day f u both.0) (open_to_all day permits f units both.1)

@@ -1,14 +1,15 @@
 -- Which units name the container with a number.
 use Rattle.std.proofs.Common.{◌≡◌, ℕ, zero, suc, Bool, true, List, [], ◌∷◌, Option, Some, None, inl, inr, refl, sym, ap}
 use Rattle.std.proofs.Common.{ap₂, cond, ◌∙◌, nat_eq, arith}
+use Rattle.std.proofs.lemmas.Bool.Decides.{nat_tests}
 use Rattle.std.specs.Prelude.{◌&&◌, ◌||◌, filter}
 use Rattle.std.specs.Str.{bytes_eq}
 use Rattle.isad_core.specs.Texts.{Bytes}
 use Rattle.catalogue_core.proofs.BoxPlaces.{numbers_are_places}
 use Rattle.catalogue_core.proofs.ImportedAgain.{box_itself, one_text}
 use Rattle.access.proofs.Common.{AllByRecursion, BoxKey, Unit, and_parts, box_number, cases_Bool, distinct, eq-eqb}
-use Rattle.access.proofs.Common.{eqb-true, false≢true, is_same_box, list_all, list_any, names_container, nat_tests, nth}
-use Rattle.access.proofs.Common.{slice_get, some_and}
+use Rattle.access.proofs.Common.{eqb-true, false≢true, is_same_box, list_all, list_any, names_container, nth, slice_get}
+use Rattle.access.proofs.Common.{some_and}
 
 one_box : (a b : BoxKey) → is_same_box a b ≡ true → a ≡ b
 one_box a b h =

@@ -3,13 +3,14 @@ use Rattle.std.proofs.Common.{◌≡◌, ℕ, ◌+◌, ◌<◌, Bool, true, fals
 use Rattle.std.proofs.Common.{get_or, nat_eq, refl, sym, ap, ap₂, subst, ◌∙◌}
 use Rattle.std.specs.Prelude.{◌&&◌, ◌||◌, IsPermutation, Option, Some, None}
 use Rattle.catalogue_core.proofs.DistinctLists.{all_so}
+use Rattle.catalogue_statements.specs.Representation.{RepresentsHousings, housing_places, numbered_containers}
+use Rattle.catalogue_statements.specs.Rows.{HousingRow, counted_from}
 use Rattle.catalogue_statements.specs.declared.row_types.Housing.{Housing}
-use Rattle.access.proofs.Common.{AllByRecursion, AreMarks, BoxKey, Empty, Forest, HousingRow, Mark, Node}
-use Rattle.access.proofs.Common.{RepresentsHousings, Trees, Unit, all_append, all_split, all_true, any_agree}
-use Rattle.access.proofs.Common.{append-nil, box_number, branch, counted_from, eqb_comm, has, has_id, housing_places}
+use Rattle.access.proofs.Common.{AllByRecursion, AreMarks, BoxKey, Empty, Forest, Mark, Node, Trees, Unit, all_append}
+use Rattle.access.proofs.Common.{all_split, all_true, any_agree, append-nil, box_number, branch, eqb_comm, has, has_id}
 use Rattle.access.proofs.Common.{is_one_of, last_or, list_any, list_any-IsPermutation, list_any-append, list_any-map}
-use Rattle.access.proofs.Common.{mark_of, names_container, names_some, near, nearest, nodes, numbered_containers}
-use Rattle.access.proofs.Common.{option_map, option_to_list, or-false, path, says_so, take_more, tree, without_number}
+use Rattle.access.proofs.Common.{mark_of, names_container, names_some, near, nearest, nodes, option_map, option_to_list}
+use Rattle.access.proofs.Common.{or-false, path, says_so, take_more, tree, without_number}
 
 -- ---- lists
 

@@ -6,18 +6,18 @@ use Rattle.sqlite.specs.State as store
 use Rattle.sqlite_trees.specs.declared.store.Store as kept_in
 use Rattle.desk_core.specs.Refusals.{first_that_holds}
 use Rattle.desk_core.specs.declared.refusal.Refusal.{Refusal}
-use Rattle.office_tables.proofs.CallEnds.{excused_then}
 use Rattle.office_tables.specs.Calls.{Answers}
+use Rattle.office_tables.specs.Step.{Goes, IsAborted, LeavesUnchanged}
 use Rattle.office_core.specs.State.{State}
 use Rattle.office_core.specs.declared.command.Command.{Command}
 use Rattle.office_core.specs.declared.done.Done.{Done}
 use Rattle.refinement.proofs.Tellings.{looked_crash}
 use Rattle.refinement.specs.CommandSteps.{CarriesOut, CarriesOutStep}
 use Rattle.refinement.specs.Representation.{RepresentsState}
-use Rattle.access.proofs.Common.{CanBeJudged, Forest, Goes, HasCleanDisk, Held, IfOk, IsAborted, IsOk, IsSoundOffice}
-use Rattle.access.proofs.Common.{LeavesUnchanged, Reply, RepresentsWhole, StoreFault, Trees, Version, after, cut_then}
-use Rattle.access.proofs.Common.{decide, early, gate, gate_reply, goes_then, on_err_then, on_ok_then, refusal}
-use Rattle.access.proofs.Common.{result_of, state, step, unless_refused, ⊤}
+use Rattle.access.proofs.Common.{CanBeJudged, Forest, HasCleanDisk, Held, IfOk, IsOk, IsSoundOffice, Reply}
+use Rattle.access.proofs.Common.{RepresentsWhole, StoreFault, Trees, Version, after, cut_then, decide, early}
+use Rattle.access.proofs.Common.{excused_then, gate, gate_reply, goes_then, on_err_then, on_ok_then, refusal, result_of}
+use Rattle.access.proofs.Common.{state, step, unless_refused, ⊤}
 
 -- the step of a command whose other checks do not hold
 gated_step : (places : Trees → Forest ℕ → Type 0) (version : Version) (s : State) (asked : Command) (db : Database)

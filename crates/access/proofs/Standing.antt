@@ -3,12 +3,13 @@
 use Rattle.std.proofs.Common.{◌≡◌, ℕ, zero, suc, ◌+◌, ◌-◌, ◌<◌, ◌≤◌, Bool, true, false, ◌||◌, cond, List, [], ◌∷◌}
 use Rattle.std.proofs.Common.{length, get_or, drop, drop-cons, refl, sym, ap, ◌∙◌, inl, inr, arith, zero-add, nat_eq}
 use Rattle.std.proofs.Common.{nat_lt}
+use Rattle.std.proofs.lemmas.Bool.Decides.{nat_tests}
 use Rattle.std.proofs.lemmas.List.Sums.{sum_by-cons}
+use Rattle.std.proofs.lemmas.Option.{slice_get-get_or, slice_get_past}
 use Rattle.std.specs.List.Sorted.{IsPermutation}
 use Rattle.access.proofs.Common.{IsNonDecreasing, any_agree, cases_Bool, cases_eq, count_by, eq-eqb, le-ltb}
-use Rattle.access.proofs.Common.{length-drop, list_any, list_any-IsPermutation, lt-ltb, ltb-false, nat_tests, ne_eqb}
-use Rattle.access.proofs.Common.{number_occurs_more_than, slice_get, slice_get-get_or, slice_get_past, some_and}
-use Rattle.access.proofs.Common.{sum_by-IsPermutation}
+use Rattle.access.proofs.Common.{length-drop, list_any, list_any-IsPermutation, lt-ltb, ltb-false, ne_eqb}
+use Rattle.access.proofs.Common.{number_occurs_more_than, slice_get, some_and, sum_by-IsPermutation}
 
 -- ---- one number
 

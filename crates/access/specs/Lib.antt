@@ -1,4 +1,4 @@
 pub mod Openness
 pub mod Gate
 pub mod DayRules
-pub mod KnownUnits
+pub mod ReadersMarks

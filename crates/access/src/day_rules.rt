@@ -108,7 +108,7 @@ fn are_against_rules<P: Places, S: Alter>(
     if is_one_without_seat(alloc, tables, loans)? {
         return Ok(true);
     }
-    let closed = first_closed(alloc, tables, loans, today)?;
+    let closed = first_closed(alloc, tables, None, loans, today)?;
     Ok(closed.is_some())
 }
 

@@ -1,6 +1,7 @@
 -- A unit that is closed, or whose closure ends, by the rules and in the tables.
-use Rattle.std.proofs.Common.{◌≡◌, ℕ, ℤ, Bool, true, false, cond, [], ◌∷◌, Option, None, refl, ap}
+use Rattle.std.proofs.Common.{◌≡◌, ℕ, ℤ, Bool, true, false, cond, List, [], ◌∷◌, Option, None, refl, ap}
 use Rattle.sqlite.specs.State as store
+use Rattle.visibility.specs.declared.marks.Mark.{Mark}
 use Rattle.catalogue_core.proofs.ImportedAgain.{all_each}
 use Rattle.catalogue_core.proofs.KeptUnits.{closure_keeps}
 use Rattle.catalogue_core.proofs.LegibleMerges.{each_legible}
@@ -11,7 +12,7 @@ use Rattle.office_core.specs.declared.done.Done.TheVariants as done
 use Rattle.access.proofs.OpenedUnits.{OnlyOpens, passes}
 use Rattle.catalogue_commands.proofs.Common.{CanBeJudged, Catalogue, Forest, HasCleanDisk, IsChange, IsLegibleCatalogue}
 use Rattle.catalogue_commands.proofs.Common.{IsSomeDay, IsSoundOffice, OfficeRow, OnlyTouches, OthersAreOpen}
-use Rattle.catalogue_commands.proofs.Common.{Represents, State, Trees, Unit, Version, after, all_so, cut, distinct_ids}
+use Rattle.catalogue_commands.proofs.Common.{Represents, State, TellOf, Trees, Unit, Version, after, all_so, cut, distinct_ids}
 use Rattle.catalogue_commands.proofs.Common.{each, each_good, gate, has_id, has_unit, is_later, is_unit_closed}
 use Rattle.catalogue_commands.proofs.Common.{judged_with, nodes, none_left, office_of, others_open, shown_with}
 use Rattle.catalogue_commands.proofs.Common.{stays_changed, ⊤}
@@ -36,12 +37,12 @@ module _ (u : ℕ) (until : Option ℤ) where
       (all_each P change s.catalogue.forest (all_so P (λ (unit : Unit). P (change unit)) (λ unit old. closure_day (has_id u unit) unit day old) (nodes s.catalogue.forest) sound.sound.days.closures))
       (legible_after s sound)
 
-  pub closes : (places : Trees → Forest ℕ → Type 0) (version : Version) (old new : store.State) (today : ℤ)
+  pub closes : (places : Trees → Forest ℕ → Type 0) (version : Version) (given : Option (List Mark)) (old new : store.State) (today : ℤ)
       → IsSomeDay until
       → (HasCleanDisk new → (o : OfficeRow) (k : Catalogue) → Represents places version old.now o k → ⊤ → Represents places version new.now o (with_closure u until k))
       → (HasCleanDisk new → OnlyTouches (tables.unit.tree ∷ []) old.now new.now)
-      → IsChange places version (λ s. (today ≡ s.day) × (has_unit s.catalogue.forest u ≡ true)) (command.SetClosure u until) today (done.SetClosure u) old new
-  closes places version old new today day updates only = record {
+      → IsChange places version (λ s. (today ≡ s.day) × (has_unit s.catalogue.forest u ≡ true) × TellOf s.catalogue given) (command.SetClosure u until) today (done.SetClosure u) old new
+  closes places version given old new today day updates only = record {
     represents = λ clean s sound so it.
         shown_with s (each change s.catalogue.forest) places version old.now new.now (tables.unit.tree ∷ []) refl (only clean) it (legible_after s sound)
         (updates clean (office_of s) s.catalogue it.catalogue tt);

@@ -38,5 +38,6 @@ pub use Rattle.refinement.specs.Representation.{office_of}
 pub use Rattle.access.proofs.OpenElsewhere.{none_left, others_open, stays_changed, stays_moved, stays_permitted}
 pub use Rattle.access.proofs.OpenElsewhere.{still_open}
 pub use Rattle.access.proofs.Passing.{IsChange, passed_freely, passed_where}
-pub use Rattle.access.specs.Gate.{AreAsked, AreEnough, OthersAreOpen}
+pub use Rattle.known_units.specs.KnownUnits.{TellOf}
+pub use Rattle.access.specs.Gate.{AreAsked, AreEnough, IsAfter, OthersAreOpen}
 pub use Rattle.catalogue_commands.specs.UnitMove.{stands_within}

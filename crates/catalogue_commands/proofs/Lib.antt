@@ -1,4 +1,5 @@
 pub mod Common
+pub mod KnownMarks
 pub mod Closed
 pub mod MarkHeights
 pub mod CutMoved

@@ -1,9 +1,10 @@
 -- Units that become drafts or are published, by the rules and in the tables.
-use Rattle.std.proofs.Common.{◌≡◌, ℕ, ℤ, Bool, true, false, cond, List, [], ◌∷◌, length, None, inl, inr, refl, sym, ap}
+use Rattle.std.proofs.Common.{◌≡◌, ℕ, ℤ, Bool, true, false, cond, List, [], ◌∷◌, length, Option, None, inl, inr, refl, sym, ap}
 use Rattle.std.proofs.Common.{◌∙◌, nat_eq}
 use Rattle.sqlite.specs.State as store
 use Rattle.tree_core.proofs.Lists.{any_agree, eqb_comm}
 use Rattle.tree_core.proofs.SpanShifts.{tree_apart}
+use Rattle.visibility.specs.declared.marks.Mark.{Mark}
 use Rattle.catalogue_core.proofs.ImportedAgain.{all_each}
 use Rattle.catalogue_core.proofs.KeptUnits.{status_keeps}
 use Rattle.catalogue_core.proofs.LegibleMerges.{each_legible}
@@ -15,7 +16,7 @@ use Rattle.office_core.specs.declared.done.Done.TheVariants as done
 use Rattle.access.proofs.OpenedUnits.{OnlyOpens, passes}
 use Rattle.catalogue_commands.proofs.Common.{AllByRecursion, CanBeJudged, Catalogue, Forest, HasCleanDisk}
 use Rattle.catalogue_commands.proofs.Common.{HasDistinctIds, IsChange, IsLegibleCatalogue, IsSomeDay, IsSoundOffice}
-use Rattle.catalogue_commands.proofs.Common.{OfficeRow, OnlyTouches, OthersAreOpen, Represents, State, Trees, Unit}
+use Rattle.catalogue_commands.proofs.Common.{OfficeRow, OnlyTouches, OthersAreOpen, Represents, State, TellOf, Trees, Unit}
 use Rattle.catalogue_commands.proofs.Common.{Version, after, all_so, branch, cases_Bool, cut, cut-each, distinct_ids}
 use Rattle.catalogue_commands.proofs.Common.{each, each_good, false≢true, gate, has, has-each, has_id, has_unit}
 use Rattle.catalogue_commands.proofs.Common.{is_unit_closed, judged_with, list_any, nodes, none_left, office_of}
@@ -49,12 +50,12 @@ module _ (u : ℕ) (draft whole : Bool) where
       (all_each P (change ids) s.catalogue.forest (all_so P (λ (unit : Unit). P (change ids unit)) (λ unit old. status_day (is_chosen ids unit) unit old) (nodes s.catalogue.forest) sound.sound.days.closures))
       (legible_after s sound)
 
-  pub sets : (places : Trees → Forest ℕ → Type 0) (version : Version) (old new : store.State) (today : ℤ) (n : ℕ)
+  pub sets : (places : Trees → Forest ℕ → Type 0) (version : Version) (given : Option (List Mark)) (old new : store.State) (today : ℤ) (n : ℕ)
       → (HasCleanDisk new → (o : OfficeRow) (k : Catalogue) → Represents places version old.now o k → ⊤ → Represents places version new.now o (with_status (chosen whole u k) draft k))
       → (HasCleanDisk new → OnlyTouches (tables.unit.tree ∷ []) old.now new.now)
       → (HasCleanDisk new → (f : Forest ℕ) → places old.now.trees f → n ≡ length (chosen_units whole u f))
-      → IsChange places version (λ s. (today ≡ s.day) × (has_unit s.catalogue.forest u ≡ true)) (command.SetStatus u draft whole) today (done.SetStatus n) old new
-  sets places version old new today n updates only count = record {
+      → IsChange places version (λ s. (today ≡ s.day) × (has_unit s.catalogue.forest u ≡ true) × TellOf s.catalogue given) (command.SetStatus u draft whole) today (done.SetStatus n) old new
+  sets places version given old new today n updates only count = record {
     represents = λ clean s sound so it.
         shown_with s (each (change (chosen whole u s.catalogue)) s.catalogue.forest) places version old.now new.now (tables.unit.tree ∷ []) refl (only clean) it (legible_after s sound)
         (updates clean (office_of s) s.catalogue it.catalogue tt);

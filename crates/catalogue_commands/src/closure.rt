@@ -1,15 +1,19 @@
 //! Closes units, and ends their closure.
 
-ghost use Rattle.std.specs.Prelude.{◌≡◌, true};
+ghost use Rattle.std.specs.Prelude.{◌≡◌, true, option_copied};
 ghost use Rattle.catalogue_core.specs.UnitLookup.{has_unit};
 ghost use Rattle.visibility.specs.Marks.{is_later};
 ghost use Rattle.catalogue_core.specs.GoodCatalogues.{IsSomeDay};
+ghost use Rattle.known_units.specs.KnownUnits.{TellOf};
+ghost use Rattle.known_units.specs.declared.changes.UnitChange.TheVariants as change;
 ghost use Rattle.office_core.specs.declared.command.Command.TheVariants as command;
 ghost use Rattle.refinement.specs.CommandSteps.{PerformsKnowing};
 
-use access::pass_gate_near;
+use access::pass_gate_changed;
 use catalogue_store::{Places, is_unit, set_closure};
 use isad_core::{Day, Number};
+use known_forest::KnownForest;
+use known_units::UnitChange;
 use office_core::{Done, Refusal};
 use office_tables::{StoreFault, Tables};
 use sqlite::Alter;
@@ -26,11 +30,19 @@ fn lasts_beyond(until: &Option<Day>, today: Day) -> bool
     }
 }
 
+/// The change of a unit that a closure makes.
+fn closure_of(until: &Option<Day>) -> UnitChange
+    ensures { result ≡ change.Closure until.now }
+{
+    UnitChange::Closure { until: *until }
+}
+
 /// Closes a unit that exists or ends its closure, or refuses if this would close a container to the reader who has it.
-/// A closure that is not in force today closes none.
+/// A closure that is not in force today closes none. `known`, if given, must be the marks of all units.
 fn close_known<P: Places, S: Alter>(
     alloc: Global,
     tables: &mut Tables<P, S>,
+    known: Option<&KnownForest>,
     today: Day,
     unit: Number,
     until: Option<Day>,
@@ -39,34 +51,38 @@ fn close_known<P: Places, S: Alter>(
     requires calendar { IsSomeDay until }
     requires lasts { is_in_force ≡ is_later today until }
     ensures { PerformsKnowing P.represents P.version S.Store
-        (λ s. (today ≡ s.day) × (has_unit s.catalogue.forest unit ≡ true)) (command.SetClosure unit until)
+        (λ s. (today ≡ s.day) × (has_unit s.catalogue.forest unit ≡ true)
+        × TellOf s.catalogue (option_copied known.entry)) (command.SetClosure unit until)
         tables.old tables.new result }
 {
+    let change = closure_of(&until);
     set_closure(tables, unit, until)?;
     let done = Done::SetClosure { unit: unit.get() };
     if !is_in_force {
         return Ok(Ok(done));
     }
-    pass_gate_near(alloc, tables, today, unit, done)
+    pass_gate_changed(alloc, tables, known, today, unit, change, done)
 }
 
 /// Closes a unit until a day, or ends its closure, and tells the unit. Refuses if there is no such unit, or if this
 /// would close a container to the reader who has it. After a refusal the caller must roll the transaction back. `today`
-/// must be the office's day.
+/// must be the office's day, and `known`, if given, the marks of all its units.
 pub fn change_closure<P: Places, S: Alter>(
     alloc: Global,
     tables: &mut Tables<P, S>,
+    known: Option<&KnownForest>,
     today: Day,
     unit: Number,
     until: Option<Day>,
 ) -> Result<Result<Done, Refusal>, StoreFault>
-    ensures { PerformsKnowing P.represents P.version S.Store (λ s. today ≡ s.day) (command.SetClosure unit until)
+    ensures { PerformsKnowing P.represents P.version S.Store
+        (λ s. (today ≡ s.day) × TellOf s.catalogue (option_copied known.entry)) (command.SetClosure unit until)
         tables.old tables.new result }
 {
-    let known = is_unit(alloc, tables, unit)?;
-    if !known {
+    let is_there = is_unit(alloc, tables, unit)?;
+    if !is_there {
         return Ok(Err(Refusal::UnknownUnit));
     }
     let is_in_force = lasts_beyond(&until, today);
-    close_known(alloc, tables, today, unit, until, is_in_force)
+    close_known(alloc, tables, known, today, unit, until, is_in_force)
 }

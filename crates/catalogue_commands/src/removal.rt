@@ -32,7 +32,7 @@ fn remove_beside<P: Places, S: Alter>(
         tables.old tables.new result }
 {
     let units = remove_branch(alloc, tables, unit)?;
-    pass_gate_with(alloc, tables, today, loans, Done::Remove { units })
+    pass_gate_with(alloc, tables, None, today, loans, Done::Remove { units })
 }
 
 /// Removes a unit that exists and all below it, or refuses if this would close a container to the reader who has it.

@@ -1,9 +1,8 @@
 -- The names that several proofs of this crate cite, passed on from one place. Declares nothing.
 pub use Rattle.std.proofs.lemmas.Bool.{cases_Bool, eq-eqb, eqb-true, false≢true}
-pub use Rattle.std.proofs.lemmas.List.{get_or-map, get_or_default, length-map, map-append, take_all, take_more}
+pub use Rattle.std.proofs.lemmas.List.{get_or-map, get_or_default, length-map, take_all, take_more}
 pub use Rattle.std.proofs.lemmas.List.Sorted.{IsPermutation-map, IsPermutation-refl, IsPermutation-sym}
 pub use Rattle.std.proofs.lemmas.List.Sorted.{IsPermutation-trans, length_permutation, list_any-IsPermutation}
-pub use Rattle.std.proofs.lemmas.Result.{IfOk-weaker}
 pub use Rattle.std.specs.List.{AllByRecursion, list_all, list_any}
 pub use Rattle.std.specs.List.Sorted.{IsPermutation}
 pub use Rattle.std.specs.Prelude.{IfErr, IfOk, IsOk, is_some, unwrap_or, ⊤}
@@ -40,8 +39,8 @@ pub use Rattle.office_tables.proofs.Rows.{had, has_map, map_has}
 pub use Rattle.office_tables.proofs.Sparing.{if_err_then, last_spares, last_touched, looked_spares, same_untouched}
 pub use Rattle.office_tables.proofs.Sparing.{spares_full, spares_known, spares_stopped, untouched, untouched_last}
 pub use Rattle.office_tables.proofs.Sparing.{wider_last, wider_spares}
-pub use Rattle.office_tables.proofs.StoreCalls.{makes_cut, makes_not, makes_part, makes_well, tells_cut, tells_last}
-pub use Rattle.office_tables.proofs.StoreCalls.{tells_not, tells_well}
+pub use Rattle.office_tables.proofs.StoreCalls.{makes_cut, makes_not, makes_part, makes_well, tells_cut, tells_not}
+pub use Rattle.office_tables.proofs.StoreCalls.{tells_well}
 pub use Rattle.office_tables.proofs.Touching.{nothing_touched, touched_again, touched_then, touched_wider}
 pub use Rattle.office_tables.proofs.numbered.OwnNumbers.{none_there, still_numbered}
 pub use Rattle.office_tables.specs.Calls.{StoreAnswers, StoreUpdates}
@@ -50,7 +49,7 @@ pub use Rattle.office_tables.specs.Step.{Continues, Goes, HasRows, InTransaction
 pub use Rattle.office_tables.specs.Step.{OnlyTouches, PutsRow, Spares}
 pub use Rattle.office_tables.specs.Versions.{First, Version}
 pub use Rattle.office_tables.specs.declared.fault.StoreFault.{StoreFault}
-pub use Rattle.catalogue_statements.proofs.FoundUnits.{found_one, none_first, none_found, told_first}
+pub use Rattle.catalogue_statements.proofs.FoundUnits.{none_first, none_found, told_first}
 pub use Rattle.catalogue_statements.proofs.Moves.{id_of, place_by_number, shows_shifted, there_by_number, units_once}
 pub use Rattle.catalogue_statements.proofs.Statuses.{all_map, draft_step, each_each, kept_by, rising, shows_changed}
 pub use Rattle.catalogue_statements.proofs.Statuses.{status_of_none, still_there}
@@ -73,4 +72,3 @@ pub use Rattle.catalogue_statements.specs.Values.{RepresentsValues, TellsTexts}
 pub use Rattle.catalogue_statements.specs.declared.office.OfficeRow.{OfficeRow}
 pub use Rattle.tree_places.proofs.MarkCauses.{legible_units}
 pub use Rattle.catalogue_store.specs.ContentsMarks.{AreContentsMarks, AreWholeMarksOfEach}
-pub use Rattle.catalogue_store.specs.Heads.{head_at, head_of}

@@ -4,16 +4,15 @@ use Rattle.std.proofs.Common.{refl, sym, ap, ◌∙◌}
 use Rattle.std.proofs.Math.Bool.{or-true}
 use Rattle.std.specs.List.{find}
 use Rattle.isad_core.specs.Values.{identifier, title}
-use Rattle.tree_core.proofs.TopsLemmas.{tops-each, part_below-each}
 use Rattle.tree_core.specs.Tops.{tops, below_first, part_below}
 use Rattle.catalogue_core.proofs.EachOf.{all_split}
 use Rattle.catalogue_statements.specs.Standings.{standing_of}
 use Rattle.catalogue_statements.specs.declared.row_types.Standing.{Standing}
 use Rattle.tree_places.proofs.MarkForests.{all_here, has_right, tree_in}
+use Rattle.catalogue_store.specs.Heads.{head_of}
 use Rattle.catalogue_store.specs.declared.heads.Head.{Head}
-use Rattle.catalogue_store.proofs.Common.{AllByRecursion, Bytes, Empty, Forest, Has, Node, RepresentsUnits, Trees, Unit}
-use Rattle.catalogue_store.proofs.Common.{all_has, all_weaker, cases_Bool, each, eq-eqb, false≢true, found_one, has_id}
-use Rattle.catalogue_store.proofs.Common.{has_unit, head_at, head_of, list_any, nodes, tree}
+use Rattle.catalogue_store.proofs.Common.{AllByRecursion, Bytes, Empty, Forest, Has, Node, Unit, all_has, all_weaker}
+use Rattle.catalogue_store.proofs.Common.{eq-eqb, has_id, has_unit, list_any, nodes, tree}
 
 abbrev id_of : Unit → ℕ
 id_of u = u.id
@@ -38,10 +37,6 @@ below_in unit f =
     let part = part_below has_id unit f in
     all_weaker (Has (nodes part)) (Has (nodes f)) (λ x h. all_has (Has (nodes f)) (nodes part) x (part_in unit f) h) (tops part) (tops_in part)
 
-pub below_ids : (unit : Option ℕ) (f : Forest Unit)
-    → tops (part_below nat_eq unit (each (λ (u : Unit). u.id) f)) ≡ map (λ (u : Unit). u.id) (tops (part_below has_id unit f))
-below_ids unit f = ap tops (part_below-each nat_eq id_of unit f) ∙ tops-each id_of (part_below has_id unit f)
-
 -- ---- heads one by one
 
 has_some : (f : Forest Unit) (u : Unit) (units : List Unit) → Has units u → list_any (has_id u.id) units ≡ true
@@ -54,33 +49,6 @@ pub all_there : (f : Forest Unit) (units : List Unit) → AllByRecursion (Has (n
     → AllByRecursion (λ id. has_unit f id ≡ true) (map (λ (u : Unit). u.id) units)
 all_there f [] h = tt
 all_there f (u ∷ units) h = (has_some f u (nodes f) h.0, all_there f units h.1)
-
--- and its head is found
-pub heads_are : (db : Trees) (f : Forest Unit) (at : RepresentsUnits db f) (units : List Unit) (heads : List Head)
-    → AllByRecursion (Has (nodes f)) units
-    → map Some heads ≡ map (head_at f) (map (λ (u : Unit). u.id) units) → heads ≡ map head_of units
-heads_are db f at [] [] all e = refl
-heads_are db f at [] (h ∷ heads) all e = absurd (let k : Some h ∷ map Some heads ≡ [] = e in cc)
-heads_are db f at (u ∷ units) [] all e = absurd (let k : [] ≡ head_at f u.id ∷ map (head_at f) (map id_of units) = e in cc)
-heads_are db f at (u ∷ units) (h ∷ heads) all e =
-    let both : Some h ∷ map Some heads ≡ head_at f u.id ∷ map (head_at f) (map id_of units) = e in
-    let here : Some h ≡ head_at f u.id = cc in
-    let rest : map Some heads ≡ map (head_at f) (map id_of units) = cc in
-    let is : Some h ≡ Some (head_of u) = here ∙ ap (option_map head_of) (found_one db f at u.id u all.0 refl) in
-    let one : h ≡ head_of u = cc in
-    ap (λ x. x ∷ heads) one ∙ ap (λ l. head_of u ∷ l) (heads_are db f at units heads all.1 rest)
-
--- a unit that is there has a head
-pub some_head : (f : Forest Unit) (id : ℕ) → has_unit f id ≡ true → None ≡ head_at f id → ⊥
-some_head f id there none = from (nodes f) there none
-  where
-    from : (units : List Unit) → list_any (has_id id) units ≡ true → None ≡ option_map head_of (find (has_id id) units)
-        → ⊥
-    from [] there none = absurd (false≢true there)
-    from (u ∷ units) there none = elim (cases_Bool (has_id id u)) [
-      | inl t ↦ (let k : None ≡ Some (head_of u) = (rw t at none) in cc)
-      | inr n ↦ from units (rw n at there) (rw n at none)
-    ]
 
 -- ---- one head
 

@@ -1,9 +1,10 @@
 -- A call that reads, and whose last step is another call that reads.
 use Rattle.std.proofs.Common.{Result}
+use Rattle.std.proofs.lemmas.Result.{IfOk-weaker}
 use Rattle.sqlite_trees.specs.declared.store.Store as store
-use Rattle.catalogue_store.proofs.Common.{Database, HasCleanDisk, Held, IfOk-weaker, IsAborted, LeavesUnchanged, State}
-use Rattle.catalogue_store.proofs.Common.{StoreAnswers, StoreFault, cut_then, early, excused_then, if_ok_by}
-use Rattle.catalogue_store.proofs.Common.{last_spares, looks_then, on_err_then, on_ok_then, state}
+use Rattle.catalogue_store.proofs.Common.{Database, HasCleanDisk, Held, IsAborted, LeavesUnchanged, State, StoreAnswers}
+use Rattle.catalogue_store.proofs.Common.{StoreFault, cut_then, early, excused_then, if_ok_by, last_spares, looks_then}
+use Rattle.catalogue_store.proofs.Common.{on_err_then, on_ok_then, state}
 
 module _ {S X Stays Part Model Share : Type 0} (g : store.Ghosts S) (represents : Database → Stays → Model → Type 0) (kept may : Model → Type 0) (represents_part : Database → Part → Share → Type 0) (kept_part may_part : Share → Type 0)
     (before mid after : Held S) (r : Result X StoreFault) (answer : Stays → Model → X → Type 0) (answer_part : Part → Share → X → Type 0) where

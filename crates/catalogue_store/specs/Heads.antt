@@ -1,8 +1,6 @@
 -- What a unit's own line shows of it (ISAD(G) 3.1: its identity).
-use Rattle.std.specs.Prelude.{ℕ, find, Option, option_map}
 use Rattle.isad_core.specs.Values.{identifier, title}
-use Rattle.tree_core.specs.Forest.{Forest, nodes}
-use Rattle.catalogue_core.specs.Units.{Unit, has_id}
+use Rattle.catalogue_core.specs.Units.{Unit}
 use Rattle.catalogue_store.specs.declared.heads.Head.{Head}
 
 -- the number, the level, the identifier and the title of a unit, whether it is a draft, and its closure
@@ -15,7 +13,3 @@ head_of u = record {
   draft = u.draft;
   until = u.until;
 }
-
--- the head of the unit with this number, or none if there is no such unit
-abbrev pub head_at : Forest Unit → ℕ → Option Head
-head_at f unit = option_map head_of (find (has_id unit) (nodes f))

@@ -1,17 +1,14 @@
 //! What a unit's own line shows of it.
 
-ghost use Rattle.std.specs.Prelude.{◌≡◌, [], Some, find, map, nat_eq, option_map, true, unwrap_or, IfOk};
-ghost use Rattle.std.specs.List.{AllByRecursion};
-ghost use Rattle.tree_core.specs.Forest.{nodes, path};
-ghost use Rattle.tree_core.specs.Tops.{part_below, tops};
+ghost use Rattle.std.specs.Prelude.{◌≡◌, [], find, nat_eq, option_map, unwrap_or, IfOk};
+ghost use Rattle.tree_core.specs.Forest.{nodes};
 ghost use Rattle.catalogue_core.specs.Bounds.{IsKept};
-ghost use Rattle.catalogue_core.specs.UnitLookup.{has_unit};
 ghost use Rattle.catalogue_core.specs.Units.{has_id};
 ghost use Rattle.office_tables.specs.Calls.{StoreAnswers};
-ghost use Rattle.office_tables.specs.Premises.{◌within◌and◌gives◌, ◌within◌gives◌};
+ghost use Rattle.office_tables.specs.Premises.{◌within◌gives◌};
 ghost use Rattle.catalogue_statements.specs.Representation.{Represents};
 ghost use Rattle.catalogue_statements.specs.declared.row_types.Element.{Element};
-ghost use Rattle.catalogue_store.specs.Heads.{head_at, head_of};
+ghost use Rattle.catalogue_store.specs.Heads.{head_of};
 
 use catalogue_statements::elements::first_elements;
 use catalogue_statements::row_types::Element;
@@ -74,52 +71,4 @@ pub fn find_head<P: Places, S: Alter>(
         draft: standing.draft,
         until: standing.until,
     }))
-}
-
-/// The heads of these units, in their order. All of them must exist.
-fn heads_of<P: Places, S: Alter>(
-    alloc: Global,
-    tables: &mut Tables<P, S>,
-    units: &[Number],
-) -> Result<Vec<Head>, StoreFault>
-    ensures answers { StoreAnswers S.Store (Represents P.represents P.version) tables.old tables.new result
-        within IsKept and (λ c. AllByRecursion (λ unit. has_unit c.forest unit ≡ true) units.now)
-        gives λ _ c heads. map Some heads.items ≡ map (head_at c.forest) units.now }
-{
-    let mut heads = Vec::new(alloc);
-    for unit in units {
-        let found = find_head(alloc, tables, *unit)?;
-        let Some(head) = found else {
-            return Err(StoreFault::Schema);
-        };
-        heads.push(head)?;
-    }
-    Ok(heads)
-}
-
-/// The heads of the units on the path of this one, from its top down to itself. Empty if there is no such unit.
-pub fn path_heads<P: Places, S: Alter>(
-    alloc: Global,
-    tables: &mut Tables<P, S>,
-    unit: Number,
-) -> Result<Vec<Head>, StoreFault>
-    ensures answers { StoreAnswers S.Store (Represents P.represents P.version) tables.old tables.new result
-        within IsKept gives λ _ c heads. heads.items ≡ map head_of (path (has_id unit) c.forest) }
-{
-    let units = P::path(alloc, tables, unit)?;
-    heads_of(alloc, tables, &units)
-}
-
-/// The heads of the units right below this one, or of the tops if none is given, in their order. Empty if there is no
-/// such unit.
-pub fn heads_below<P: Places, S: Alter>(
-    alloc: Global,
-    tables: &mut Tables<P, S>,
-    unit: Option<Number>,
-) -> Result<Vec<Head>, StoreFault>
-    ensures answers { StoreAnswers S.Store (Represents P.represents P.version) tables.old tables.new result
-        within IsKept gives λ _ c heads. heads.items ≡ map head_of (tops (part_below has_id unit c.forest)) }
-{
-    let units = P::below(alloc, tables, unit)?;
-    heads_of(alloc, tables, &units)
 }

@@ -86,6 +86,6 @@ pub use Rattle.refinement.specs.AccessConditions.{CanBeJudged, RepresentsWhole}
 pub use Rattle.refinement.specs.CommandSteps.{CarriesOut, CarriesOutStep}
 pub use Rattle.refinement.specs.ReadingRoomLimits.{limits_of}
 pub use Rattle.refinement.specs.Representation.{RepresentsState, office_of}
-pub use Rattle.access.specs.KnownUnits.{open_ones}
+pub use Rattle.access.specs.Openness.{open_ones}
 pub use Rattle.desk_commands.specs.ContainerMoves.{all_placed, handed_over, with_all_placed}
 pub use Rattle.desk_commands.specs.SparedCatalogue.{CarriesOutSparing, reading_room_trees, spares_catalogue}

@@ -15,11 +15,11 @@ ghost use Rattle.desk_commands.specs.Issuance.{IsQueuedFor, asked_for};
 ghost use Rattle.desk_commands.specs.SparedCatalogue.{PerformsSparing};
 
 use crate::container_moves::hand_over;
+use access::is_open_today;
 use catalogue_store::Places;
 use desk_core::{AtDesk, Limits, Place, Reader, known_container, may_issue};
 use desk_store::{OrderState, QueueHead, WaitingOrder, queue_head, ticket_holder};
 use isad_core::{Day, Number};
-use known_access::is_open_today;
 use known_forest::KnownForest;
 use office_core::{Done, Refusal};
 use office_tables::{StoreFault, Tables};

@@ -10,11 +10,11 @@ ghost use Rattle.refinement.specs.ReadingRoomLimits.{limits_of};
 ghost use Rattle.desk_commands.specs.OrderPlacement.{IsCardOf, MayPlaceOrder, ask_of};
 ghost use Rattle.desk_commands.specs.SparedCatalogue.{PerformsSparing};
 
+use access::is_open_today;
 use catalogue_store::Places;
 use desk_core::{Ask, Limits, may_order};
 use desk_store::{LiveOrder, ReaderCard, append_order, reader};
 use isad_core::{Day, Number};
-use known_access::is_open_today;
 use known_forest::KnownForest;
 use office_core::{Done, Refusal};
 use office_tables::{StoreFault, Tables};

@@ -9,7 +9,7 @@ ghost use Rattle.office_core.specs.declared.command.Command.TheVariants as comma
 ghost use Rattle.office_tables.specs.Calls.{Answers};
 ghost use Rattle.office_tables.specs.Premises.{◌within◌gives◌};
 ghost use Rattle.state_encoding.specs.OfficeRows.{tables as rows_of};
-ghost use Rattle.access.specs.KnownUnits.{open_ones};
+ghost use Rattle.access.specs.Openness.{open_ones};
 ghost use Rattle.refinement.specs.ReadingRoomLimits.{limits_of};
 ghost use Rattle.refinement.specs.AccessConditions.{CanBeJudged, RepresentsWhole};
 ghost use Rattle.desk_commands.specs.RunCreation.{open_orders, taken_by};
@@ -17,11 +17,11 @@ ghost use Rattle.desk_commands.specs.SparedCatalogue.{PerformsSparing};
 
 use crate::container_moves::move_all;
 use crate::emptiness::are_none;
+use access::{is_open_today, open_today};
 use catalogue_store::Places;
 use desk_core::{Limits, Place};
 use desk_store::{ContainerOrder, first_orders, on_shelf, record_run};
 use isad_core::{Day, Number};
-use known_access::{is_open_today, open_today};
 use known_forest::KnownForest;
 use office_core::{Done, Refusal};
 use office_tables::{StoreFault, Tables};

@@ -9,12 +9,11 @@ ghost use Rattle.office_tables.specs.Versions.{Second};
 ghost use Rattle.headline.specs.Headline.{IsVisitedOver, TheHeadline};
 ghost use Rattle.headline.specs.Visits.{IsConversation, IsHeld, IsMade, IsPut, IsTold, WereMade};
 
-use crate::names::names_days_and_texts;
 use http_desk::session::talk;
 use http_desk::session_end::Ended;
 use http_desk::streams::{Sink, Source};
 use nested_sets::SpanPlaces;
-use office::{Answer, Busy, Command, Machine, Office, Query, Reply};
+use office::{Answer, Busy, Command, Machine, Office, Query, Reply, names_days_and_texts};
 use sqlite::Alter;
 use std::alloc::Global;
 use std::io::{Read, Write};

@@ -27,7 +27,6 @@ enum Question {
     All,
     Path(u32),
     Branch(u32),
-    Below(Option<u32>),
     /// Whether the first is the second, or lies below it.
     IsBelow(u32, u32),
     /// Which units have a place, in the order of their numbers, and the depth of the deepest; a dash for defective
@@ -81,8 +80,6 @@ fn answer<P: CheckedPlaces, S: Alter>(
         Question::All => P::all(alloc, tables)?,
         Question::Path(unit) => P::path(alloc, tables, Number::from(unit))?,
         Question::Branch(unit) => P::branch(alloc, tables, Number::from(unit))?,
-        Question::Below(None) => P::below(alloc, tables, None)?,
-        Question::Below(Some(above)) => P::below(alloc, tables, Some(Number::from(above)))?,
         Question::IsBelow(unit, other) => {
             let is_below = P::is_below(alloc, tables, Number::from(unit), Number::from(other))?;
             return Ok(format!(in alloc; "{is_below}")?);
@@ -135,17 +132,15 @@ fn see(rt: &impl Abort, alloc: Global, forest: &[Place], cases: &[Case]) -> Resu
 /// and 8.
 #[test]
 fn a_forest_is_told(rt: HostRuntime) -> Result<(), Fail> {
-    let cases: [Case; 15] = [
+    let cases: [Case; 13] = [
         (&[], Question::All, "7 2 3 4 5 6 1 10 9 8 "),
         (&[], Question::Path(4), "7 2 3 4 "),
         (&[], Question::Path(6), "6 "),
         (&[], Question::Path(99), ""),
         (&[], Question::Branch(2), "2 3 4 "),
         (&[], Question::Branch(99), ""),
-        (&[], Question::Below(None), "7 6 1 "),
-        (&[], Question::Below(Some(1)), "10 9 8 "),
-        (&[], Question::Below(Some(4)), ""),
-        (&[], Question::Below(Some(99)), ""),
+        (&[], Question::Branch(1), "1 10 9 8 "),
+        (&[], Question::Branch(4), "4 "),
         (&[], Question::IsBelow(4, 7), "true"),
         (&[], Question::IsBelow(7, 4), "false"),
         (&[], Question::IsBelow(5, 5), "true"),
@@ -160,11 +155,10 @@ fn a_forest_is_told(rt: HostRuntime) -> Result<(), Fail> {
 #[test]
 fn branches_move_and_go(rt: HostRuntime) -> Result<(), Fail> {
     use Change::{Cut, Move};
-    let cases: [Case; 15] = [
+    let cases: [Case; 14] = [
         (&[Move(2, Some(1))], Question::All, "7 5 6 1 10 9 8 2 3 4 "),
         (&[Move(2, None)], Question::All, "7 5 6 1 10 9 8 2 3 4 "),
-        (&[Move(2, None)], Question::Below(None), "7 6 1 2 "),
-        (&[Move(10, Some(1))], Question::Below(Some(1)), "9 8 10 "),
+        (&[Move(10, Some(1))], Question::Branch(1), "1 9 8 10 "),
         (&[Move(1, Some(4))], Question::Path(8), "7 2 3 4 1 8 "),
         (&[Move(7, Some(6))], Question::All, "6 7 2 3 4 5 1 10 9 8 "),
         (
@@ -211,7 +205,11 @@ const WHOLE: &str =
 fn few_and_many_numbers_change(rt: HostRuntime) -> Result<(), Fail> {
     use Change::{Cut, Move};
     let cases: [Case; 12] = [
-        (&[Move(5, None)], Question::Below(None), "1 2 3 4 6 5 "),
+        (
+            &[Move(5, None)],
+            Question::All,
+            "1 7 8 9 10 11 12 13 14 15 16 17 18 19 20 21 22 23 24 25 26 27 28 29 30 2 3 4 6 5 ",
+        ),
         (
             &[Move(2, Some(1)), Move(29, Some(1))],
             Question::Branch(1),
@@ -247,7 +245,11 @@ fn few_and_many_numbers_change(rt: HostRuntime) -> Result<(), Fail> {
             Question::Judged,
             WHOLE,
         ),
-        (&[Cut(5), Cut(6)], Question::Below(None), "1 2 3 4 "),
+        (
+            &[Cut(5), Cut(6)],
+            Question::All,
+            "1 7 8 9 10 11 12 13 14 15 16 17 18 19 20 21 22 23 24 25 26 27 28 29 30 2 3 4 ",
+        ),
         (
             &[Cut(5)],
             Question::Judged,

@@ -1,1 +1,2 @@
 pub mod KnownUnits
+pub mod UnitChanges

@@ -5,5 +5,5 @@
 mod changes;
 mod units;
 
-pub use changes::{set_closure, set_status};
+pub use changes::{UnitChange, set_closure, set_status, with_change};
 pub use units::{branch_marks, path_marks, units_below};

@@ -1,9 +1,8 @@
 -- The names that several proofs of this crate cite, passed on from one place. Declares nothing.
-pub use Rattle.std.proofs.Math.Bool.{and-false}
 pub use Rattle.std.proofs.Math.Nat.{le_refl}
 pub use Rattle.std.proofs.lemmas.Bool.{and_parts, both_ways, cases_Bool, cases_eq, cases_lt, eq-eqb, eqb-true}
 pub use Rattle.std.proofs.lemmas.Bool.{false≢true, le-leb, le-ltb, leb-true, lt-leb, lt-ltb, ltb-false, ltb-true}
-pub use Rattle.std.proofs.lemmas.Bool.{ne_eqb, not-true, or_from, or_parts, or_right}
+pub use Rattle.std.proofs.lemmas.Bool.{ne_eqb, or_from, or_parts, or_right}
 pub use Rattle.std.proofs.lemmas.Bool.Decides.{nat_tests}
 pub use Rattle.std.proofs.lemmas.List.{drop_all, get_or-map, length-map, length-reverse, map-append, map-id, map_more}
 pub use Rattle.std.proofs.lemmas.List.{reverse-append, take_all}
@@ -11,12 +10,10 @@ pub use Rattle.std.proofs.lemmas.List.Sorted.{IsNonDecreasingBy-from_all_adjacen
 pub use Rattle.std.proofs.lemmas.List.Sorted.{IsPermutation-append_left, IsPermutation-cons, IsPermutation-filter_both}
 pub use Rattle.std.proofs.lemmas.List.Sorted.{IsPermutation-map, IsPermutation-refl, IsPermutation-sym}
 pub use Rattle.std.proofs.lemmas.List.Sorted.{IsPermutation-trans, list_any-IsPermutation, searched}
-pub use Rattle.std.proofs.lemmas.Option.{slice_get-get_or, slice_get-map}
 pub use Rattle.std.proofs.lemmas.Result.{IfOk-weaker}
 pub use Rattle.std.specs.BTreeMap.{get}
 pub use Rattle.std.specs.Cmp.{IsTotalOrder, int_cmp_total, on_total, then_total}
-pub use Rattle.std.specs.Int.{w32}
-pub use Rattle.std.specs.List.{AllByRecursion, dedup, dedup_from, list_all, list_any}
+pub use Rattle.std.specs.List.{AllByRecursion, list_all, list_any}
 pub use Rattle.std.specs.List.Sorted.{IsNonDecreasing, IsSorted}
 pub use Rattle.std.specs.Option.{option_flatten}
 pub use Rattle.std.specs.Ordering.{int_cmp, is_eq, is_ge, is_lt, nat_cmp, ord_max, ord_min}
@@ -35,11 +32,12 @@ pub use Rattle.sqlite.specs.Order.{Row, column}
 pub use Rattle.sqlite.specs.Query.{Query, end, inner}
 pub use Rattle.sqlite.specs.State.{Executes, HasCleanDisk, IsLive, IsMisplaced, MayCommit, Shown, Shows, State}
 pub use Rattle.sqlite.specs.State.{Survives, Writes, mode_of}
+pub use Rattle.sqlite.specs.Table.{Table}
 pub use Rattle.sqlite.specs.Term.{Term, col, eval_all, holds, op2}
 pub use Rattle.sqlite.specs.Tree.{IsAscending, Trees, put_row}
 pub use Rattle.sqlite.specs.declared.types.Value.TheVariants.{Blob, Int, Null}
 pub use Rattle.sqlite_rules.proofs.ListLemmas.{all_from, all_has, has_either, has_filtered, has_found, has_kept}
-pub use Rattle.sqlite_rules.proofs.ListLemmas.{has_last, has_left, has_right, some_has}
+pub use Rattle.sqlite_rules.proofs.ListLemmas.{has_last, has_left, has_right}
 pub use Rattle.sqlite_rules.specs.Lists.{Has}
 pub use Rattle.sqlite_sql.specs.declared.ops.BinaryOp.TheVariants.{Arith, Compare}
 pub use Rattle.sqlite_sql.specs.declared.ops.CompareOp.TheVariants.{Eq, Ge, Gt, Le, Lt}
@@ -47,11 +45,10 @@ pub use Rattle.sqlite_trees.proofs.ListLemmas.{IsPermutation-filter, IsPermutati
 pub use Rattle.sqlite_trees.proofs.ListLemmas.{IsPermutation-flat_map_each, all-append, all-filter, all-get_or, all-map}
 pub use Rattle.sqlite_trees.proofs.ListLemmas.{all-permutation, all_from_map, all_of, all_weaker, ascending-append}
 pub use Rattle.sqlite_trees.proofs.ListLemmas.{ascending-filter, ascending-map, ascending_from_map, ascending_weaker}
-pub use Rattle.sqlite_trees.proofs.ListLemmas.{filter-map, filter_none, filter_same, flat_map-map, flat_map_same_on}
+pub use Rattle.sqlite_trees.proofs.ListLemmas.{filter-map, filter_all, filter_none, filter_same, flat_map_same_on}
 pub use Rattle.sqlite_trees.proofs.ListLemmas.{map-flat_map, map-map}
 pub use Rattle.sqlite_typing.specs.Types.{accepts_program}
 pub use Rattle.sqlite_value.specs.Keys.{ascending}
-pub use Rattle.sqlite_value.specs.declared.keys.Key.{Key}
 pub use Rattle.tree_core.proofs.Adding.{Below, Beside, Here, absent, distinct_added, place}
 pub use Rattle.tree_core.proofs.Lists.{distinct_cons, eqb_comm, head_apart, is_among, list_any-map}
 pub use Rattle.tree_core.proofs.LoopItems.{item_left, item_made, item_taken}
@@ -64,14 +61,11 @@ pub use Rattle.tree_core.specs.Lifts.{lifted_row}
 pub use Rattle.tree_core.specs.Shifts.{end_of, inside, is_inside, lowered, narrowed, outside, raised, rebased, room}
 pub use Rattle.tree_core.specs.Shifts.{spread, start_of, widened}
 pub use Rattle.tree_core.specs.Spans.{RepresentsSpans, spans_from}
-pub use Rattle.tree_core.specs.Tops.{below_first, last_but_one, part_below, right_above, tops}
+pub use Rattle.tree_core.specs.Tops.{last_but_one, right_above}
 pub use Rattle.tree_core.specs.declared.rows.Span.{Span}
-pub use Rattle.visibility.specs.declared.marks.Mark.{Mark}
 pub use Rattle.catalogue_core.specs.Bounds.{IsBounded, IsKept, IsLegibleUnit}
 pub use Rattle.catalogue_core.specs.CatalogueMerge.{Catalogue, box_number}
-pub use Rattle.catalogue_core.specs.MarkLookup.{mark_at, marks_at}
-pub use Rattle.catalogue_core.specs.UnitMarks.{AreMarks, AreWalkMarks, mark_of, names_container, part_of}
-pub use Rattle.catalogue_core.specs.UnitMarks.{without_number}
+pub use Rattle.catalogue_core.specs.UnitMarks.{AreWalkMarks, part_of}
 pub use Rattle.catalogue_core.specs.Units.{Unit, has_id}
 pub use Rattle.office_tables.proofs.CallEnds.{excused_then, leaves_last, leaves_part, left_by, left_fault, left_well}
 pub use Rattle.office_tables.proofs.CallEnds.{making_last, making_not, making_then, same_fault}
@@ -117,25 +111,18 @@ pub use Rattle.catalogue_statements.specs.Representation.{numbered_containers}
 pub use Rattle.catalogue_statements.specs.Rows.{HousingRow, by_housing, by_number, cells_of_unit, counted_from}
 pub use Rattle.catalogue_statements.specs.Rows.{element_row, housing_row, office_row}
 pub use Rattle.catalogue_statements.specs.declared.office.OfficeRow.{OfficeRow}
-pub use Rattle.tree_places.proofs.MarkForests.{ids_from, marks_bare, marks_from, part_in, path_ids, path_in}
-pub use Rattle.tree_places.specs.MarkLookUps.{HoldsHousings, Members}
+pub use Rattle.tree_places.proofs.MarkForests.{ids_from, marks_from, part_in, path_ids, path_in}
 pub use Rattle.nested_sets.specs.Arrivals.{AreFree, found_before, key, rows_among, with_span_rows}
-pub use Rattle.nested_sets.specs.AttachedRows.{AreFit, HoldsHousedRows, HoldsUnitAndHousingRows, by_house}
-pub use Rattle.nested_sets.specs.AttachedRows.{goes_with_row, goes_with_unit, is_in, numbered_cells, numbered_status}
-pub use Rattle.nested_sets.specs.AttachedRows.{paired, paired_mark, status_of}
 pub use Rattle.nested_sets.specs.JoinedRows.{AreReadable, HoldsHousingRows, HoldsUnitRows, IsNumberedIn, by_walk}
 pub use Rattle.nested_sets.specs.JoinedRows.{comes_next, is_first, is_first_between, is_housed, is_of_unit, left_after}
 pub use Rattle.nested_sets.specs.JoinedRows.{mark_with, marked, merged_marks, placed_cells, placed_status}
-pub use Rattle.nested_sets.specs.KnownPaths.{AreMarksAt, AreMarksOfPath, AreRowsOver, HoldsCatalogue, IsKnown, IsMarkIn}
-pub use Rattle.nested_sets.specs.KnownPaths.{IsRest, IsRow, IsToldIn, IsWholeMarkOf, KnowsMarks, begins_before, rows_of}
-pub use Rattle.nested_sets.specs.KnownPaths.{span_at}
+pub use Rattle.nested_sets.specs.KnownPaths.{HoldsCatalogue, IsRow, IsToldIn, IsWholeMarkOf, rows_of, span_at}
 pub use Rattle.nested_sets.specs.Migration.{HasSpanPlaces, VersionedRow, in_version_2, versioned_cells}
 pub use Rattle.nested_sets.specs.Ranges.{IsBetween, encloses, last_number, moved_number, moved_span, shifted}
 pub use Rattle.nested_sets.specs.Ranges.{shifted_first, shifted_last, shifted_span}
 pub use Rattle.nested_sets.specs.Representation.{HoldsSpans, NumbersPart, RepresentsSpanRows, same_span_rows}
 pub use Rattle.nested_sets.specs.Rows.{IsLow, answer_cells, by_first, span_row}
 pub use Rattle.nested_sets.specs.SurroundingRows.{BeginBefore, IsAbove, IsAboveFrom, IsBeside, IsReached, IsSought}
-pub use Rattle.nested_sets.specs.SurroundingRows.{SeeksFrom, StandsAt, lies_around, reaches_over}
-pub use Rattle.nested_sets.specs.declared.attached_rows.NumberedStatus.{NumberedStatus}
+pub use Rattle.nested_sets.specs.SurroundingRows.{SeeksFrom, lies_around, reaches_over}
 pub use Rattle.nested_sets.specs.declared.joined_rows.PlacedStatus.{PlacedStatus}
 pub use Rattle.nested_sets.specs.declared.row_types.ToldSpan.{ToldSpan}

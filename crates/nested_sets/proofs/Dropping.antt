@@ -10,7 +10,6 @@ use Rattle.sqlite.specs.Listing.{understood}
 use Rattle.sqlite.specs.Rowids.TheVariants.{Given}
 use Rattle.sqlite.specs.Rows.{Task, Outcome, Gives, Edited}
 use Rattle.sqlite.specs.State.{CommitsBy}
-use Rattle.sqlite.specs.Table.{Table}
 use Rattle.sqlite.specs.declared.error.Error.{Error}
 use Rattle.sqlite.specs.declared.run.Mode.{Mode}
 use Rattle.sqlite_rules.specs.Calls.{ids_of}
@@ -29,9 +28,9 @@ use Rattle.office_tables.specs.declared.fault.StoreFault.TheVariants as fault
 use Rattle.nested_sets.proofs.Common.{AllByRecursion, BlamesDisk, Command, Continues, Database, DropTable, Executes}
 use Rattle.nested_sets.proofs.Common.{First, HasCause, HasCleanDisk, HasMade, IsAborted, IsDatabase, IsLive}
 use Rattle.nested_sets.proofs.Common.{IsMisplaced, KeepsRows, Knows, MayCommit, Says, Shows, State, StoreFault}
-use Rattle.nested_sets.proofs.Common.{Survives, Trees, Writes, all_weaker, catalogue_schema, early, edit_of, element}
-use Rattle.nested_sets.proofs.Common.{failed_cause, fault_of, housing, le_refl, link, list_all, mode_of, permit, schema}
-use Rattle.nested_sets.proofs.Common.{stopped, to_unit}
+use Rattle.nested_sets.proofs.Common.{Survives, Table, Trees, Writes, all_weaker, catalogue_schema, early, edit_of}
+use Rattle.nested_sets.proofs.Common.{element, failed_cause, fault_of, housing, le_refl, link, list_all, mode_of}
+use Rattle.nested_sets.proofs.Common.{permit, schema, stopped, to_unit}
 
 abbrev pub drop_text : List ℕ
 drop_text = codes "DROP TABLE link"

@@ -7,15 +7,11 @@ pub use Rattle.sqlite.specs.Effect.{Database, IsDatabase}
 pub use Rattle.sqlite.specs.Held.{Held, state}
 pub use Rattle.sqlite.specs.State.{Executes, HasCleanDisk, IsLive, IsNotRun, Shows, Survives}
 pub use Rattle.sqlite.specs.Tree.{Trees}
-pub use Rattle.tree_core.specs.Forest.{Empty, Forest, Node, each, nodes, size}
+pub use Rattle.tree_core.specs.Forest.{Empty, Forest, Node, each, nodes}
 pub use Rattle.visibility.specs.declared.marks.Mark.{Mark}
 pub use Rattle.desk_core.specs.declared.refusal.Refusal.{Refusal}
-pub use Rattle.catalogue_core.specs.CatalogueMerge.{Catalogue, box_number}
-pub use Rattle.catalogue_core.specs.UnitMarks.{AreWalkMarks, mark_of, without_number}
 pub use Rattle.catalogue_core.specs.Units.{Unit, has_id}
-pub use Rattle.office_tables.proofs.CallEnds.{making_last, tells_well}
-pub use Rattle.office_tables.proofs.Calls.{continues_then, cut_after, cut_then, early, looks_nowhere, on_ok_both}
-pub use Rattle.office_tables.proofs.Calls.{on_ok_then}
+pub use Rattle.office_tables.proofs.Calls.{continues_then, cut_then, early, looks_nowhere, on_ok_both, on_ok_then}
 pub use Rattle.office_tables.specs.Faults.{BlamesDisk, HasOuterCause, fault_of}
 pub use Rattle.office_tables.specs.Schema.{desk_schema, desk_tables, no_schema, schema}
 pub use Rattle.office_tables.specs.Step.{Goes, GoesOn, LeavesUnchanged, OnlyTouches}
@@ -41,7 +37,8 @@ pub use Rattle.office.specs.Adoption.{HasAdoptCause, IsAdopted, fault_for_verdic
 pub use Rattle.office.specs.IdleOffice.{IsAsBefore, IsAtRest, IsIn, IsOffice, has_clean_disk, is_shown, is_still_open}
 pub use Rattle.office.specs.Inspection.{ConfirmsOpen, Inspects}
 pub use Rattle.office.specs.KeptMarks.{AreKept, AreOfLent, AreOfTables, AreSound, AreSoundIf, FollowsChange}
-pub use Rattle.office.specs.KeptMarks.{FollowsReply, KnowsIf, KnowsKept, TellOf, TellOne, asks_access}
+pub use Rattle.known_units.specs.KnownUnits.{KnowsIf, TellOf}
+pub use Rattle.office.specs.KeptMarks.{FollowsReply, KnowsKept, TellOne, asks_access}
 pub use Rattle.office.specs.NamedNumbers.{asks_named, named, of_named}
 pub use Rattle.office.specs.NewOffice.{MakesTables, RepresentsNew, new_desk, open_fault_of}
 pub use Rattle.office.specs.OfficeCall.{MayFind, TakesStep}

@@ -1,11 +1,13 @@
 -- The marks in memory after a command that changed the catalogue.
-use Rattle.std.proofs.Common.{◌≡◌, [], ◌∷◌, ℕ, ℤ, Bool, true, false, List, Option, Some, None, Result, Ok, Err, nat_eq}
+use Rattle.std.proofs.Common.{◌≡◌, [], ◌∷◌, ℕ, ℤ, Bool, true, false, List, Option, Some, None, Result, Ok, Err}
 use Rattle.std.proofs.Common.{refl, sym, ap, subst, ◌∙◌}
 use Rattle.std.specs.Prelude.{IsOk, OnErr}
 use Rattle.sqlite.specs.State.{State}
 use Rattle.sqlite_trees.specs.declared.store.Store as trees
-use Rattle.tree_core.proofs.EachLemmas.{nodes-each}
+use Rattle.catalogue_core.specs.CatalogueMerge.{Catalogue}
 use Rattle.catalogue_core.specs.Statuses.{chosen, with_closure, with_status}
+use Rattle.access.proofs.Gates.{told_if}
+use Rattle.catalogue_commands.proofs.KnownMarks.{known_if}
 use Rattle.office_tables.specs.Schema as tables
 use Rattle.office_core.specs.Rules as machine
 use Rattle.office_core.specs.Soundness.{NamesDays}
@@ -14,12 +16,12 @@ use Rattle.office_core.specs.declared.command.Command.TheVariants as command
 use Rattle.office_core.specs.declared.machine.Reply.{Reply}
 use Rattle.office.specs.CallTransactions.{Applies}
 use Rattle.office.specs.KeptMarks.{Follows}
-use Rattle.office.proofs.Common.{AreKept, AreSound, AreSoundIf, Catalogue, Command, Database, FollowsChange}
-use Rattle.office.proofs.Common.{FollowsReply, Forest, HasCleanDisk, Held, IfOk, IsAsBefore, IsDistinct, IsErr, IsIn}
-use Rattle.office.proofs.Common.{IsOffice, IsSoundOffice, KnowsIf, Mark, NamesTexts, Refusal, Represents}
-use Rattle.office.proofs.Common.{RepresentsState, StoreFault, TakesStep, TellOf, TellOne, Trees, Unit, Version, after}
-use Rattle.office.proofs.Common.{always_sound_office, decide, early, is_shown, named, of_named, office_of, refusal}
-use Rattle.office.proofs.Common.{result_of, spares_catalogue, state, step}
+use Rattle.office.proofs.Common.{AreKept, AreSound, AreSoundIf, Command, Database, FollowsChange, FollowsReply, Forest}
+use Rattle.office.proofs.Common.{HasCleanDisk, Held, IfOk, IsAsBefore, IsErr, IsIn, IsOffice, IsSoundOffice}
+use Rattle.office.proofs.Common.{KnowsIf, Mark, NamesTexts, Refusal, Represents, RepresentsState, StoreFault, TakesStep}
+use Rattle.office.proofs.Common.{TellOf, TellOne, Trees, Version, after, always_sound_office, decide, early}
+use Rattle.office.proofs.Common.{is_shown, named, of_named, office_of, refusal, result_of, spares_catalogue, state}
+use Rattle.office.proofs.Common.{step}
 use Rattle.office.proofs.KeptMarks.{kept_as_before, kept_spared}
 use Rattle.office.proofs.NamedNumbers.{step_named}
 use Rattle.office.proofs.OneCatalogue.{marks_of_both}
@@ -42,19 +44,6 @@ named_after s sound asked ok =
     let same = step_named s sound asked in
     sym (ap (λ (p : office.State × machine.Reply). p.0) same)
     ∙ accepted_after s (of_named asked) (subst (λ (p : office.State × machine.Reply). IsOk p.1) (sym same) ok)
-
--- the units of a sound office whose marks are kept
-known_if : (s : office.State) → IsSoundOffice s → (kept : Option (List Mark)) → TellOf s.catalogue kept
-    → KnowsIf s.catalogue kept
-known_if s sound None it = tt
-known_if s sound (Some marks) it = record {
-  walk = it;
-  distinct = subst (IsDistinct nat_eq) (sym (nodes-each (λ (u : Unit). u.id) s.catalogue.forest)) sound.sound.units.ids;
-}
-
-told_if : (c : Catalogue) (kept : Option (List Mark)) → KnowsIf c kept → TellOf c kept
-told_if c None it = tt
-told_if c (Some marks) it = it.walk
 
 pub status_followed : (old new : Option (List Mark)) (u : ℕ) (draft whole : Bool)
     → ((c : Catalogue) → KnowsIf c old → KnowsIf (with_status (chosen whole (named u) c) draft c) new)

@@ -1,32 +1,17 @@
--- The marks that an office keeps: how many they are, and when they stay those of its tables.
-use Rattle.std.proofs.Common.{◌≡◌, ◌≤◌, ℕ, true, IsTrue, List, Option, Result, length, refl, sym, ap, subst, ◌∙◌, arith}
+-- The marks that an office keeps: when they stay those of its tables.
+use Rattle.std.proofs.Common.{◌≡◌, ℕ, true, IsTrue, List, Option, Result, refl, sym, ap, subst, ◌∙◌}
 use Rattle.std.specs.Prelude.{OnOk}
 use Rattle.sqlite.specs.State.{State}
 use Rattle.sqlite_trees.specs.declared.store.Store as trees
-use Rattle.isad_core.specs.Limits.{most_units}
-use Rattle.tree_core.proofs.EachLemmas.{size-each}
-use Rattle.catalogue_core.proofs.NodeLemmas.{length-nodes}
-use Rattle.catalogue_core.specs.Bounds.{IsKept}
 use Rattle.office_tables.specs.Schema as tables
 use Rattle.office_core.specs.State as office
 use Rattle.refinement.proofs.Frames.{catalogue_kept}
 use Rattle.refinement.specs.QueryAnswers.{AnswersQuery}
 use Rattle.public_queries.specs.InformedAnswers.{AnswersKnowing}
-use Rattle.office.proofs.Common.{Answer, AreKept, AreOfLent, AreOfTables, AreWalkMarks, Catalogue, Database, Forest}
-use Rattle.office.proofs.Common.{HasCleanDisk, IsAsBefore, IsAtRest, LeavesUnchanged, Mark, OnlyTouches, Query}
-use Rattle.office.proofs.Common.{Represents, RepresentsState, Shows, StoreFault, TellOf, Trees, Unit, Version, early}
-use Rattle.office.proofs.Common.{mark_of, office_of, on_ok_then, reading_room_trees, size, without_number}
-
--- ---- how many they are
-
-pub few_marks : (c : Catalogue) (marks : List Mark) → IsKept c → AreWalkMarks c.forest marks
-    → length marks ≤ most_units
-few_marks c marks kept it =
-    let few = kept.places.few in
-    let ids = size-each (λ (u : Unit). u.id) c.forest in
-    let same = sym (size-each without_number it.forest) ∙ ap size it.theirs ∙ size-each mark_of c.forest in
-    let long = ap length it.walked ∙ length-nodes it.forest in
-    omega (arith, few, ids, same, long)
+use Rattle.office.proofs.Common.{Answer, AreKept, AreOfLent, AreOfTables, Database, Forest, HasCleanDisk, IsAsBefore}
+use Rattle.office.proofs.Common.{IsAtRest, LeavesUnchanged, Mark, OnlyTouches, Query, Represents, RepresentsState}
+use Rattle.office.proofs.Common.{Shows, StoreFault, TellOf, Trees, Version, early, office_of, on_ok_then}
+use Rattle.office.proofs.Common.{reading_room_trees}
 
 -- ---- they stay
 

@@ -10,7 +10,9 @@ use Rattle.sqlite.specs.declared.types.Value.TheVariants.{Int}
 use Rattle.sqlite_trees.proofs.ListLemmas.{IsPermutation-filter, all-permutation, all_both, all_weaker}
 use Rattle.isad_core.specs.declared.values.BoxKey.{BoxKey}
 use Rattle.catalogue_core.proofs.EachOf.{all_split}
+use Rattle.catalogue_core.specs.CatalogueMerge.{Catalogue, box_number}
 use Rattle.catalogue_core.specs.ContainerContents.{is_some_there}
+use Rattle.catalogue_core.specs.UnitMarks.{AreWalkMarks, mark_of}
 use Rattle.office_tables.specs.Flags.{flag}
 use Rattle.office_tables.specs.Order.{Rises}
 use Rattle.office_tables.specs.RowNumbers.{HasNumbered}
@@ -18,9 +20,9 @@ use Rattle.office_tables.specs.Schema as tables
 use Rattle.catalogue_statements.proofs.Moves.{other_number}
 use Rattle.catalogue_statements.specs.Rows.{HousingRow, by_number, cells_of_unit, counted_from, housing_row}
 use Rattle.catalogue_statements.specs.declared.office.OfficeRow.{OfficeRow}
-use Rattle.office.proofs.Common.{AllByRecursion, AreWalkMarks, Catalogue, Database, Empty, Forest, Mark, Node}
-use Rattle.office.proofs.Common.{Represents, RepresentsHousings, RepresentsUnits, Trees, Unit, Version, box_number}
-use Rattle.office.proofs.Common.{each, find, housing_places, mark_of, nodes, numbered_containers}
+use Rattle.office.proofs.Common.{AllByRecursion, Database, Empty, Forest, Mark, Node, Represents, RepresentsHousings}
+use Rattle.office.proofs.Common.{RepresentsUnits, Trees, Unit, Version, each, find, housing_places, nodes}
+use Rattle.office.proofs.Common.{numbered_containers}
 
 -- ---- what the row of a unit tells of its mark
 

@@ -1,5 +1,5 @@
 -- The marks of all units that an office keeps in memory, and when they are those of its tables.
-use Rattle.std.specs.Prelude.{◌≡◌, ℕ, Bool, true, false, IsOk, IsTrue, List, None, Option, Ok, Err, Result, IfSome}
+use Rattle.std.specs.Prelude.{◌≡◌, ℕ, Bool, true, false, IsOk, IsTrue, List, None, Option, Ok, Err, Result}
 use Rattle.sqlite.specs.Effect.{Database}
 use Rattle.sqlite.specs.State as store
 use Rattle.sqlite.specs.State.{HasCleanDisk}
@@ -7,8 +7,7 @@ use Rattle.sqlite.specs.Tree.{Trees}
 use Rattle.tree_core.specs.Forest.{Forest}
 use Rattle.visibility.specs.declared.marks.Mark.{Mark}
 use Rattle.catalogue_core.specs.CatalogueMerge.{Catalogue}
-use Rattle.catalogue_core.specs.UnitMarks.{AreWalkMarks}
-use Rattle.known_units.specs.KnownUnits.{KnowsUnits}
+use Rattle.known_units.specs.KnownUnits.{TellOf}
 use Rattle.office_tables.specs.Versions.{Version}
 use Rattle.catalogue_statements.specs.Representation.{Represents}
 use Rattle.catalogue_statements.specs.declared.office.OfficeRow.{OfficeRow}
@@ -22,14 +21,6 @@ use Rattle.office_tables.specs.declared.fault.StoreFault.{StoreFault}
 use Rattle.desk_commands.specs.SparedCatalogue.{spares_catalogue}
 use Rattle.office.specs.IdleOffice.{IsIn}
 use Rattle.refinement.specs.Representation.{office_of}
-
--- if marks are kept, they are those of this catalogue
-abbrev pub TellOf : Catalogue → Option (List Mark) → Type 0
-TellOf c kept = IfSome kept (AreWalkMarks c.forest)
-
--- the same, and no two units of the catalogue have the same number
-abbrev pub KnowsIf : Catalogue → Option (List Mark) → Type 0
-KnowsIf c kept = IfSome kept (KnowsUnits c.forest)
 
 -- if marks are kept, they are those of each catalogue that the tables represent
 abbrev pub AreOfTables : (Trees → Forest ℕ → Type 0) → Version → Database → Option (List Mark) → Type 0
@@ -48,6 +39,7 @@ abbrev pub asks_access : Command → Bool
 asks_access (command.Order ticket container) = true
 asks_access command.Run = true
 asks_access (command.Issue container ticket) = true
+asks_access (command.Revoke ticket unit) = true
 asks_access _ = false
 
 -- What is kept after a command was accepted that may have changed the catalogue: nothing; or, if the tables are known

@@ -1,6 +1,6 @@
 //! Commands: each is one transaction and one step. Who may have which container is decided from marks in memory.
 
-ghost use Rattle.std.specs.Prelude.{◌≡◌, None, false, true, IfErr, IfOk, OnOk};
+ghost use Rattle.std.specs.Prelude.{◌≡◌, None, false, true, IfErr, IfOk, OnOk, option_copied};
 ghost use Rattle.sqlite.specs.Held.{state};
 ghost use Rattle.sqlite.specs.State.{HasCleanDisk};
 ghost use Rattle.office_core.specs.Json.{reply_text};
@@ -10,7 +10,8 @@ ghost use Rattle.office_tables.specs.Step.{OnlyTouches};
 ghost use Rattle.office_tables.specs.declared.fault.StoreFault.TheVariants as fault;
 ghost use Rattle.office.specs.CallTransactions.{Applies, Replies};
 ghost use Rattle.office.specs.IdleOffice.{IsOffice};
-ghost use Rattle.office.specs.KeptMarks.{AreSoundIf, AreKept, AreOfLent, AreOfTables, asks_access as asks_who_may_see};
+ghost use Rattle.office.specs.KeptMarks.{AreSoundIf, AreKept, AreOfLent, AreOfTables, KnowsKept};
+ghost use Rattle.office.specs.KeptMarks.{asks_access as asks_who_may_see};
 ghost use Rattle.office.specs.NamedNumbers.{of_named};
 ghost use Rattle.office.specs.Sight.{day_check, name_check};
 ghost use Rattle.desk_commands.specs.SparedCatalogue.{reading_room_trees, spares_catalogue};
@@ -78,6 +79,9 @@ fn perform_knowing<P: Places, S: Alter>(
                 named(*ticket),
             )
         }
+        Command::Revoke { ticket, unit } => {
+            revoke_permit(alloc, tables, forest, today, named(*ticket), named(*unit))
+        }
         _ => Err(StoreFault::Schema),
     }
 }
@@ -106,18 +110,19 @@ fn perform_keeping<P: Places, S: Alter>(
     done
 }
 
-/// Carries out another command whose names and day were checked.
+/// Carries out another command whose names and day were checked. The marks that are kept must be those of the tables.
 fn perform<P: Places, S: Alter>(
     alloc: Global,
     tables: &mut Tables<P, S>,
     row: &OfficeRow,
+    kept: Option<&KnownForest>,
     command: &Command,
 ) -> Result<Result<Done, Refusal>, StoreFault>
     requires asks { asks_who_may_see command.now ≡ false }
     requires named { name_check command.now ≡ None }
     requires dated { day_check row.now.day command.now ≡ None }
     requires texts { NamesTexts command.now }
-    ensures performs { PerformsKnowing P.represents P.version S.Store (λ s. row.now ≡ office_of s)
+    ensures performs { PerformsKnowing P.represents P.version S.Store (KnowsKept row.now (option_copied kept.entry))
         (of_named command.now) tables.old tables.new result }
     ensures only { spares_catalogue (of_named command.now) ≡ true → HasCleanDisk (state S.Store tables.new)
         → OnOk result (OnlyTouches reading_room_trees (state S.Store tables.old).now (state S.Store tables.new).now) }
@@ -133,9 +138,9 @@ fn perform<P: Places, S: Alter>(
             unit,
             draft,
             branch,
-        } => change_status(alloc, tables, today, named(*unit), *draft, *branch),
+        } => change_status(alloc, tables, kept, today, named(*unit), *draft, *branch),
         Command::SetClosure { unit, until } => {
-            change_closure(alloc, tables, today, named(*unit), *until)
+            change_closure(alloc, tables, kept, today, named(*unit), *until)
         }
         Command::Move { unit, parent } => move_to(
             alloc,
@@ -157,10 +162,9 @@ fn perform<P: Places, S: Alter>(
             unit,
             until,
         } => permit(alloc, tables, named(*ticket), named(*unit), *until),
-        Command::Revoke { ticket, unit } => {
-            revoke_permit(alloc, tables, today, named(*ticket), named(*unit))
+        Command::Order { .. } | Command::Run | Command::Issue { .. } | Command::Revoke { .. } => {
+            Err(StoreFault::Schema)
         }
-        Command::Order { .. } | Command::Run | Command::Issue { .. } => Err(StoreFault::Schema),
     }
 }
 
@@ -189,7 +193,7 @@ fn carry_out<P: Places, S: Alter>(
     if asks_access(command) {
         return perform_keeping(alloc, tables, &row, kept, command);
     }
-    perform(alloc, tables, &row, command)
+    perform(alloc, tables, &row, kept.as_ref(), command)
 }
 
 /// The reply to a command, with its bytes.

@@ -10,10 +10,12 @@ ghost use Rattle.catalogue_statements.specs.Representation.{Represents};
 ghost use Rattle.desk_commands.specs.SparedCatalogue.{spares_catalogue};
 ghost use Rattle.catalogue_core.specs.CatalogueMerge.{Catalogue};
 ghost use Rattle.catalogue_core.specs.Statuses.{chosen, with_closure, with_status};
-ghost use Rattle.office.specs.KeptMarks.{Follows, FollowsChange, KnowsIf, TellOf, asks_access as asks_who_may_see};
+ghost use Rattle.known_units.specs.KnownUnits.{KnowsIf, TellOf};
+ghost use Rattle.office.specs.KeptMarks.{Follows, FollowsChange, asks_access as asks_who_may_see};
 
 use crate::named_numbers::named;
-use catalogue_store::{Places, branch_marks};
+use access::all_marks;
+use catalogue_store::Places;
 use isad_core::{Day, Number};
 use known_forest::KnownForest;
 use known_units::{set_closure, set_status};
@@ -21,24 +23,6 @@ use office_core::{Command, Reply};
 use office_tables::{StoreFault, Tables};
 use sqlite::Alter;
 use std::alloc::Global;
-
-/// No office has more units than this: their marks could not be numbered.
-const MOST_MARKS: usize = 1 << 30;
-
-/// Reads the marks of all units.
-fn all_marks<P: Places, S: Alter>(
-    alloc: Global,
-    tables: &mut Tables<P, S>,
-) -> Result<KnownForest, StoreFault>
-    ensures answers { Answers S.Store (Represents P.represents P.version) tables.old tables.new result
-        within IsKept gives λ _ c forest. AreWalkMarks c.forest forest }
-{
-    let marks = branch_marks(alloc, tables, None)?;
-    if marks.len() > MOST_MARKS {
-        return Err(StoreFault::Schema);
-    }
-    Ok(KnownForest::new(marks)?)
-}
 
 /// The marks that were kept, or if there are none, those that the tables have.
 pub(crate) fn kept_or_read<P: Places, S: Alter>(
@@ -61,7 +45,7 @@ pub(crate) fn asks_access(command: &Command) -> bool
 {
     matches!(
         command,
-        Command::Order { .. } | Command::Run | Command::Issue { .. }
+        Command::Order { .. } | Command::Run | Command::Issue { .. } | Command::Revoke { .. }
     )
 }
 

@@ -21,6 +21,7 @@ pub mod worked;
 pub use faults::OpenFault;
 pub use finding_aids::preview;
 pub use migration::migrate;
+pub use names::names_days_and_texts;
 pub use office_core::{Answer, Busy, Command, Done, Machine, Query, Refusal, Remark, Reply};
 pub use offices::Office;
 pub use settings::{Settings, SettingsFault, is_country, is_repository};

@@ -43,7 +43,7 @@ fn is_of_calendar(day: Day)
 
 /// Changes nothing. Its contract is a law: the days that a command names are days of the calendar, and the reader's
 /// name in it is UTF-8.
-pub(crate) fn names_days_and_texts(command: &Command)
+pub fn names_days_and_texts(command: &Command)
     ensures days { NamesDays command.now }
     ensures texts { NamesTexts command.now }
 {

@@ -8,7 +8,8 @@ ghost use Rattle.public_queries.specs.InformedAnswers.{RespondsKnowing};
 ghost use Rattle.public_queries.specs.KnownPaths.{RepresentsKnown};
 ghost use Rattle.office.specs.CallTransactions.{Asks};
 ghost use Rattle.office.specs.IdleOffice.{IsOffice};
-ghost use Rattle.office.specs.KeptMarks.{AreKept, AreOfTables, KnowsKept, TellOf};
+ghost use Rattle.known_units.specs.KnownUnits.{TellOf};
+ghost use Rattle.office.specs.KeptMarks.{AreKept, AreOfTables, KnowsKept};
 ghost use Rattle.office.specs.NamedNumbers.{asks_named};
 ghost use Rattle.refinement.specs.Representation.{office_of};
 

@@ -41,11 +41,12 @@ pub use Rattle.office_tables.proofs.Calls.{on_ok_then}
 pub use Rattle.office_tables.specs.Step.{IsAborted, LeavesUnchanged}
 pub use Rattle.office_tables.specs.declared.fault.StoreFault.{StoreFault}
 pub use Rattle.catalogue_statements.specs.Representation.{Represents}
+pub use Rattle.catalogue_statements.proofs.FoundUnits.{found_one}
 pub use Rattle.catalogue_statements.specs.Standings.{standing_of}
 pub use Rattle.catalogue_statements.specs.declared.office.OfficeRow.{OfficeRow}
 pub use Rattle.catalogue_statements.specs.declared.row_types.Standing.{Standing}
 pub use Rattle.catalogue_store.proofs.Common.{Has, IsPermutation, IsPermutation-refl, RepresentsUnits, all_has}
-pub use Rattle.catalogue_store.proofs.Common.{element_row, elements_of, found_one, legible_units, numbered_texts}
+pub use Rattle.catalogue_store.proofs.Common.{element_row, elements_of, legible_units, numbered_texts}
 pub use Rattle.catalogue_store.proofs.Common.{still_numbered}
 pub use Rattle.catalogue_store.specs.Heads.{head_of}
 pub use Rattle.catalogue_store.specs.declared.heads.Head.{Head}

@@ -38,7 +38,7 @@ fn show_numbers(text: &mut String, marks: &[Mark]) -> Result<(), StoreFault> {
     Ok(())
 }
 
-/// The same without `boxed`, which has no meaning for a unit that a container is attached to, nor above it.
+/// The same without whether they name containers.
 pub(crate) fn show_statuses(text: &mut String, marks: &[Mark]) -> Result<(), StoreFault> {
     for mark in marks {
         let (id, draft) = (mark.id.get(), mark.draft);
@@ -49,8 +49,7 @@ pub(crate) fn show_statuses(text: &mut String, marks: &[Mark]) -> Result<(), Sto
     Ok(())
 }
 
-/// The marks of a unit that a container is attached to, and of those below it. Each of these is closed: of an open leaf
-/// `boxed` has no meaning.
+/// The marks of a unit that a container is attached to, without whether it names containers, and of those below it.
 pub(crate) fn show_branch(text: &mut String, marks: &[Mark]) -> Result<(), StoreFault> {
     if let Some((own, below)) = marks.split_first() {
         let (id, draft) = (own.id.get(), own.draft);

@@ -8,9 +8,9 @@ ghost use Rattle.office_tables.specs.Step.{InTransaction};
 
 use crate::mark_lines::{show_branch, show_marks, show_statuses, show_walk};
 use catalogue_store::{
-    Head, LinkPlaces, NewUnit, OfficeRow, Places, StoreFault, add_unit, attached_marks, begin,
-    branch_marks, contents_marks, create, heads_below, known, move_unit, office_row, path_heads,
-    path_marks, remove_branch, replace_values, set_closure, set_status, values,
+    LinkPlaces, NewUnit, OfficeRow, Places, StoreFault, add_unit, begin, branch_marks,
+    contents_marks, create, known, move_unit, office_row, path_marks, remove_branch,
+    replace_values, set_closure, set_status, values,
 };
 use desk_store::{create_desk, is_blank};
 use isad_core::{BoxKey, Day, List, Number, Text, Values};
@@ -307,21 +307,16 @@ fn lie_on_one_path<P: Places, S: Alter>(
     Ok(())
 }
 
-/// The marks of the path and of the branch of each unit that Box 1 is attached to. The path of one is known when those
-/// of the next are read.
+/// The marks of the path and of the branch of each unit that Box 1 is attached to.
 fn read_attached<P: Places, S: Alter>(
     alloc: Global,
     tables: &mut Tables<P, S>,
     text: &mut String,
 ) -> Result<(), StoreFault> {
     lie_on_one_path(alloc, tables)?;
-    let rows = attached_marks(alloc, tables, Number::from(1))?;
-    let mut known = Vec::new(alloc);
-    for row in &rows {
-        let found = P::marks_about(alloc, tables, &known, *row)?;
-        show_marks(text, &found.path)?;
-        show_walk(text, &found.branch)?;
-        known = found.path;
+    for attached in &contents_marks(alloc, tables, Number::from(1))? {
+        show_marks(text, &attached.path)?;
+        show_walk(text, &attached.branch)?;
     }
     Ok(())
 }
@@ -337,28 +332,6 @@ fn read_far_branch<P: Places, S: Alter>(
     add(alloc, tables, 20, None, MAPS)?;
     move_second(alloc, tables, Some(20))?;
     show_walk(text, &branch_marks(alloc, tables, Some(Number::from(20)))?)
-}
-
-fn show_heads(text: &mut String, heads: &[Head]) -> Result<(), StoreFault> {
-    for head in heads {
-        let id = head.id.get();
-        write!(text, " {id} ")?;
-        text.push_str(head.title.as_str())?;
-    }
-    text.push_str("\n")?;
-    Ok(())
-}
-
-/// Unit 2 is moved below unit 4: the tops, the units right below unit 4, and the path of unit 2, each with its title.
-fn read_heads<P: Places, S: Alter>(
-    alloc: Global,
-    tables: &mut Tables<P, S>,
-    text: &mut String,
-) -> Result<(), StoreFault> {
-    moved_below(alloc, tables)?;
-    show_heads(text, &heads_below(alloc, tables, None)?)?;
-    show_heads(text, &heads_below(alloc, tables, Some(Number::from(4)))?)?;
-    show_heads(text, &path_heads(alloc, tables, Number::from(2))?)
 }
 
 /// Unit 1 and all below it become drafts, then unit 2 is published: how many units were set each time.
@@ -413,7 +386,6 @@ pub(crate) enum Act {
     Mark,
     Attach,
     MarkFar,
-    Head,
     Set,
     LookUp,
 }
@@ -435,7 +407,6 @@ fn carry_out<P: Places, S: Alter>(
         Act::Mark => read_marks(alloc, tables, text),
         Act::Attach => read_attached(alloc, tables, text),
         Act::MarkFar => read_far_branch(alloc, tables, text),
-        Act::Head => read_heads(alloc, tables, text),
         Act::Set => set(alloc, tables, text),
         Act::LookUp => looked_up(alloc, tables, text),
     }
@@ -627,7 +598,7 @@ const FAR: Case = Case {
 
 #[test]
 fn units_are_described_and_marked(rt: HostRuntime) -> Result<(), Fail> {
-    let cases: [Case; 7] = [
+    let cases: [Case; 6] = [
         Case {
             done: Act::Revise,
             told: "true true\n",
@@ -650,11 +621,6 @@ fn units_are_described_and_marked(rt: HostRuntime) -> Result<(), Fail> {
         },
         ATTACHED,
         FAR,
-        Case {
-            done: Act::Head,
-            told: " 1 Hull Dock Company 4 Maps\n 2 Minutes\n 4 Maps 2 Minutes\n",
-            ..MOVED
-        },
         Case {
             done: Act::Set,
             queries: &[UNITS],

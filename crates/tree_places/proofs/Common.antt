@@ -3,10 +3,8 @@ pub use Rattle.std.proofs.lemmas.Bool.{cases_Bool, eq-eqb, eqb-true, false≢tru
 pub use Rattle.std.proofs.lemmas.List.{drop_all, drop_more, get_or-map, get_or_default, length-map, length-reverse}
 pub use Rattle.std.proofs.lemmas.List.{length-take-le, map-append, map_more, reverse-append, reverse-reverse, take_all}
 pub use Rattle.std.proofs.lemmas.List.{take_more}
-pub use Rattle.std.proofs.lemmas.List.Sorted.{IsPermutation-map, IsPermutation-reverse, IsPermutation-sym}
-pub use Rattle.std.proofs.lemmas.List.Sorted.{IsPermutation-trans, length_permutation, list_any-IsPermutation}
-pub use Rattle.std.proofs.lemmas.List.Sorted.{sum_by-IsPermutation}
-pub use Rattle.std.proofs.lemmas.Result.{IfOk-weaker}
+pub use Rattle.std.proofs.lemmas.List.Sorted.{IsPermutation-reverse, IsPermutation-sym, IsPermutation-trans}
+pub use Rattle.std.proofs.lemmas.List.Sorted.{length_permutation, list_any-IsPermutation, sum_by-IsPermutation}
 pub use Rattle.std.specs.Cmp.{IsTotalOrder, int_cmp_total, on_total, then_total, tied_itself}
 pub use Rattle.std.specs.List.{AllByRecursion, AllPairs, dedup, list_any}
 pub use Rattle.std.specs.List.Sorted.{IsPermutation, IsSorted}
@@ -16,7 +14,6 @@ pub use Rattle.sqlite.specs.Effect.{Database}
 pub use Rattle.sqlite.specs.Held.{Held, state}
 pub use Rattle.sqlite.specs.State.{HasCleanDisk, State}
 pub use Rattle.sqlite.specs.Tree.{Trees, put_row}
-pub use Rattle.sqlite_rules.proofs.ListLemmas.{all_from, all_has, has_filtered, has_kept, some_from, some_has}
 pub use Rattle.sqlite_rules.specs.Lists.{Has}
 pub use Rattle.sqlite_trees.proofs.ListLemmas.{IsPermutation-filter, all-append, all-get_or, all-permutation}
 pub use Rattle.sqlite_trees.proofs.ListLemmas.{all_weaker, ascending-filter, ascending-map}
@@ -30,7 +27,7 @@ pub use Rattle.tree_core.specs.Forest.{Empty, Forest, HasDistinctIds, Node, add,
 pub use Rattle.tree_core.specs.Forest.{path, size, tree}
 pub use Rattle.tree_core.specs.Links.{RepresentsLinks, rows_below, siblings}
 pub use Rattle.tree_core.specs.Spans.{spans_from}
-pub use Rattle.tree_core.specs.Tops.{below_first, last_but_one, part_below, right_above, tops}
+pub use Rattle.tree_core.specs.Tops.{last_but_one, right_above, tops}
 pub use Rattle.tree_core.specs.declared.rows.Link.{Link}
 pub use Rattle.tree_core.specs.declared.rows.Span.{Span}
 pub use Rattle.visibility.specs.declared.marks.Mark.{Mark}
@@ -54,9 +51,8 @@ pub use Rattle.office_tables.specs.Step.{Continues, Goes, LeavesUnchanged, OnlyT
 pub use Rattle.catalogue_statements.proofs.LinkRepresentation.{adds, no_link_rows}
 pub use Rattle.catalogue_statements.proofs.UpdateEnds.{leaves_so, looked_only, makes_first, makes_ill, makes_later}
 pub use Rattle.catalogue_statements.proofs.UpdateEnds.{makes_passed}
-pub use Rattle.catalogue_statements.specs.Representation.{Represents, RepresentsHousings, RepresentsLinkRows}
-pub use Rattle.catalogue_statements.specs.Representation.{RepresentsUnits, housing_places, numbered_containers}
+pub use Rattle.catalogue_statements.specs.Representation.{RepresentsHousings, RepresentsLinkRows, RepresentsUnits}
+pub use Rattle.catalogue_statements.specs.Representation.{housing_places, numbered_containers}
 pub use Rattle.catalogue_statements.specs.Rows.{HousingRow, by_housing, by_number, by_place, counted_from, link_row}
-pub use Rattle.tree_places.specs.Attachments.{AreAttached, AreAttachedMarks, IsOfMarked, named_by}
 pub use Rattle.tree_places.specs.LastPlaces.{KnowsLast, last_known, taken_below}
 pub use Rattle.tree_places.specs.declared.links.Task.TheVariants.{Close, Open}

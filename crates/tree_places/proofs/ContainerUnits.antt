@@ -5,17 +5,18 @@ use Rattle.std.proofs.Math.Dec.{eqb}
 use Rattle.std.proofs.lemmas.Int.{ints}
 use Rattle.std.proofs.lemmas.List.Kept.{Contains-dedup_nat, Contains-from_dedup, AllPairs-from_increasing}
 use Rattle.std.proofs.lemmas.Map.Keys.{IsStrictlyIncreasing-dedup}
+use Rattle.sqlite_rules.proofs.ListLemmas.{all_has, has_filtered, has_kept, some_from, some_has}
 use Rattle.isad_core.specs.declared.values.BoxKey.{BoxKey}
 use Rattle.tree_core.proofs.Lists.{In, In-from_Contains, Contains-from_In}
 use Rattle.office_tables.proofs.Sorted.{same_rising}
-use Rattle.tree_places.proofs.Common.{AllByRecursion, AllPairs, AreAttached, Catalogue, Has, HousingRow, IsPermutation}
+use Rattle.tree_places.specs.Attachments.{AreAttached}
+use Rattle.tree_places.proofs.Common.{AllByRecursion, AllPairs, Catalogue, Has, HousingRow, IsPermutation}
 use Rattle.tree_places.proofs.Common.{IsPermutation-filter, IsPermutation-sym, IsSorted, IsTotalOrder}
-use Rattle.tree_places.proofs.Common.{RepresentsHousings, RepresentsUnits, Rises, Trees, Unit, all_has}
-use Rattle.tree_places.proofs.Common.{ascending-filter, ascending-map, box_number, by_housing, by_number, counted_from}
-use Rattle.tree_places.proofs.Common.{dedup, eq-eqb, eqb-true, get_or-map, had, has, has_filtered, has_id, has_kept}
-use Rattle.tree_places.proofs.Common.{has_map, housing_places, int_cmp, int_cmp_total, is_lt, length-map, map_has}
-use Rattle.tree_places.proofs.Common.{names_container, nat_cmp, nodes, numbered_containers, on_total, ordering_then}
-use Rattle.tree_places.proofs.Common.{some_from, some_has}
+use Rattle.tree_places.proofs.Common.{RepresentsHousings, RepresentsUnits, Rises, Trees, Unit, ascending-filter}
+use Rattle.tree_places.proofs.Common.{ascending-map, box_number, by_housing, by_number, counted_from, dedup, eq-eqb}
+use Rattle.tree_places.proofs.Common.{eqb-true, get_or-map, had, has, has_id, has_map, housing_places, int_cmp}
+use Rattle.tree_places.proofs.Common.{int_cmp_total, is_lt, length-map, map_has, names_container, nat_cmp, nodes}
+use Rattle.tree_places.proofs.Common.{numbered_containers, on_total, ordering_then}
 
 -- ---- numbers in order, each once
 

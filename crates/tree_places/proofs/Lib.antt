@@ -1,5 +1,4 @@
 pub mod Common
-pub mod AttachedMarks
 pub mod ContainerUnits
 pub mod BoundLemmas
 pub mod Children

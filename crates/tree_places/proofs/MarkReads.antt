@@ -3,14 +3,15 @@ use Rattle.std.proofs.Common.{◌≡◌, inl, inr, ℕ, zero, suc, pos, ◌+◌,
 use Rattle.std.proofs.Common.{take, get_or, Some, None, option_map, false, not, ◌==◌, nat_eq, Less, Equal, refl, sym}
 use Rattle.std.proofs.Common.{ap, ap₂, ◌∙◌, arith}
 use Rattle.std.specs.List.{find}
+use Rattle.sqlite_rules.proofs.ListLemmas.{all_has}
 use Rattle.isad_core.specs.declared.values.BoxKey.{BoxKey}
 use Rattle.catalogue_core.specs.ContainerContents.{is_some_there}
 use Rattle.catalogue_statements.proofs.Numbered.{length-counted}
 use Rattle.catalogue_statements.specs.declared.row_types.Status.{Status}
 use Rattle.tree_places.proofs.Common.{AllByRecursion, Forest, Has, HousingRow, IsPermutation, IsPermutation-sym, Mark}
-use Rattle.tree_places.proofs.Common.{RepresentsHousings, RepresentsUnits, Rises, Span, Trees, Unit, all_has}
-use Rattle.tree_places.proofs.Common.{box_number, by_number, cases_Bool, counted_from, eq-eqb, eqb-true, get_or-map}
-use Rattle.tree_places.proofs.Common.{had, housing_places, int_cmp, int_cmp_total, length-map, length-take-le}
+use Rattle.tree_places.proofs.Common.{RepresentsHousings, RepresentsUnits, Rises, Span, Trees, Unit, box_number}
+use Rattle.tree_places.proofs.Common.{by_number, cases_Bool, counted_from, eq-eqb, eqb-true, get_or-map, had}
+use Rattle.tree_places.proofs.Common.{housing_places, int_cmp, int_cmp_total, length-map, length-take-le}
 use Rattle.tree_places.proofs.Common.{length_permutation, mark_at, marks_at, ne_eqb, nodes, numbered_containers}
 use Rattle.tree_places.proofs.Common.{take_all, take_more, tied_itself}
 

@@ -1,7 +1,6 @@
 -- The units that a container is attached to, and their marks.
-use Rattle.std.specs.Prelude.{◌≡◌, ℕ, nat_eq, true, false, List, map, filter, IsPermutation, ⊤}
-use Rattle.std.specs.List.{AllByRecursion}
-use Rattle.tree_core.specs.Forest.{Forest, nodes, each, has, path, tree}
+use Rattle.std.specs.Prelude.{ℕ, false, List, map, filter, IsPermutation}
+use Rattle.tree_core.specs.Forest.{Forest, nodes, path, tree}
 use Rattle.visibility.specs.declared.marks.Mark.{Mark}
 use Rattle.catalogue_core.specs.CatalogueMerge.{Catalogue}
 use Rattle.office_tables.specs.Order.{Rises}
@@ -19,11 +18,6 @@ pub record AreAttached (c : Catalogue) (container : ℕ) (units : List Unit) : T
 abbrev pub named_by : Catalogue → ℕ → List ℕ
 named_by c container = map (λ (u : Unit). u.id) (filter (names_container c.containers container) (nodes c.forest))
 
--- the marks of the units that name the container, one for each, in some order; `tells` says what each of them tells
-abbrev pub AreAttachedMarks : (Catalogue → Mark → Type 0) → Catalogue → ℕ → List Mark → Type 0
-AreAttachedMarks tells c container marks =
-    IsPermutation (named_by c container) (map (λ (mark : Mark). mark.id) marks) × AllByRecursion (tells c) marks
-
 -- the marks of the path and of the branch of a unit
 abbrev pub AreWholeMarksOf : Forest Unit → ℕ → Attached → Type 0
 AreWholeMarksOf f id one = AreMarks (path (has_id id) f) one.path.items × AreWalkMarks (tree (has_id id) f) one.branch.items
@@ -31,11 +25,3 @@ AreWholeMarksOf f id one = AreMarks (path (has_id id) f) one.path.items × AreWa
 -- the same mark, as of a unit that names no containers
 abbrev pub without_containers : Mark → Mark
 without_containers mark = record mark { boxed = false }
-
--- what the links say of a mark: its unit is in the forest
-abbrev pub IsOfMarked : Catalogue → Mark → Type 0
-IsOfMarked c mark = has (nat_eq mark.id) (each (λ (u : Unit). u.id) c.forest) ≡ true
-
--- the links need not know any path
-abbrev pub NeedsNoPath : Catalogue → List Mark → Type 0
-NeedsNoPath c known = ⊤

@@ -29,4 +29,4 @@ returns-clause-answers g c =
     ends_so (learned_more (learned_by (of_desk c.in_ok-is_one_without_seat.ensures.answers)) c.in_ok-closed.ensures.answers) (λ _ s so judged day hands.
     by_openness g.P.Versioned.version s c.args.hands c.args.loans.now c.in_ok-are_too_many.field-0 hands c.in_ok-are_too_many.ensures c.if-branch.false
     c.in_ok-is_one_without_seat.field-0 so.before c.if-branch-2.false c.is_some.result
-    (c.is_some.ensures ∙ ap is_some (so.now judged day) ∙ some_closed s c.args.loans.now))
+    (c.is_some.ensures ∙ ap is_some (so.now judged day tt) ∙ some_closed s c.args.loans.now))

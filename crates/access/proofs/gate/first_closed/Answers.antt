@@ -1,44 +1,26 @@
-use Rattle.std.proofs.Common.{◌<◌, Some, length, refl, sym, ap, ◌∙◌, arith}
-use Rattle.access.proofs.Common.{ContainerOrder, first_that, is_closed_to, looks_then, option_map, take_all}
-use Rattle.access.proofs.Gates.{closed_here, none_closed}
-use Rattle.access.proofs.Learned.{ends_so, fault_first, fault_later, learned_by, learned_more, learned_nothing}
-use Rattle.access.proofs.Learned.{learned_so, learned_then, of_catalogue}
-use Rattle.access.proofs.TellingUnits.{nothing_told}
+use Rattle.std.proofs.Common.{◌≡◌, [], length, sym, subst, ap}
+use Rattle.std.specs.Prelude.{option_copied}
+use Rattle.access.proofs.Common.{TellOf, ends_well, eqb-true, first_closed, looks_nowhere, nil_from_length, ⊤}
+use Rattle.access.proofs.Learned.{ends_by, fault_first, learned_by, learned_nothing, of_catalogue}
 use Rattle.access.proofs.gate.first_closed.Goals as goal
 
-pub returns-in_err-walked-clause-answers : goal.returns-in_err-walked-clause-answers
-returns-in_err-walked-clause-answers g c = fault_first c.from_residual.ensures (of_catalogue c.in_err-walked.ensures.answers.call)
+-- nothing is out
+pub returns-then-is_empty-clause-answers : goal.returns-then-is_empty-clause-answers
+returns-then-is_empty-clause-answers g c =
+    let loans = c.args.loans.now in
+    let none : loans ≡ [] = nil_from_length loans (eqb-true (length loans) 0 (sym c.if-is_empty.ensures)) in
+    ends_well looks_nowhere _ (λ clean s it judged day tell. ap (first_closed s) (sym none))
 
-pub loop-place-init : goal.loop-place-init
-loop-place-init g c = learned_nothing (λ _ s judged day walked. refl)
+-- the caller knows the marks
+pub returns-in-Some-clause-answers : goal.returns-in-Some-clause-answers
+returns-in-Some-clause-answers g c =
+    ends_by (learned_nothing {fact = λ _ s. ⊤} (λ _ s. tt)) c.first_closed_by.ensures.answers (λ _ s nothing found is judged day tell.
+    is judged day (subst (TellOf s.catalogue) (ap option_copied c.in-Some.is) tell))
 
-pub returns-in_err-is_open_at-clause-answers : goal.returns-in_err-is_open_at-clause-answers
-returns-in_err-is_open_at-clause-answers g c =
-    fault_later c.from_residual-in_err-is_open_at.ensures (looks_then c.in_ok-walked.ensures.answers.looks c.loop-place.invariant.looks)
-    c.in_err-is_open_at.ensures.answers
-
--- the first that is closed
-pub returns-then-not-branch-clause-answers : goal.returns-then-not-branch-clause-answers
-returns-then-not-branch-clause-answers g c =
-    let low : c.loop-place.place < length c.args.loans.now = omega arith in
-    ends_so (learned_more (learned_then (learned_by (of_catalogue c.in_ok-walked.ensures.answers.call)) c.loop-place.invariant)
-    c.in_ok-is_open_at.ensures.answers) (λ _ s so judged day.
-    let walked = so.before.before (nothing_told c.args.today s.catalogue.forest c.new.result c.new.ensures.empty) in
-    ap Some c.get.ensures.same
-    ∙ closed_here s c.args.loans.now c.loop-place.place c.index-loans-place.result low c.in_ok-is_open_at.field-0 (so.now judged day walked)
-    (so.before.now judged day walked) c.if-not-branch.true)
-
-pub loop-place-preserved : goal.loop-place-preserved
-loop-place-preserved g c =
-    let none : ContainerOrder = record { container = 0; order = 0; ticket = 0 } in
-    let low : c.loop-place.place < length c.args.loans.now = omega arith in
-    learned_so (learned_more c.loop-place.invariant c.in_ok-is_open_at.ensures.answers) (λ _ s so judged day walked.
-    none_closed s c.args.loans.now c.loop-place.place none low c.in_ok-is_open_at.field-0 (so.now judged day walked) (so.before judged day walked)
-    c.if-not-branch.false)
+pub returns-in_err-read-clause-answers : goal.returns-in_err-read-clause-answers
+returns-in_err-read-clause-answers g c = fault_first c.from_residual.ensures (of_catalogue c.in_err-read.ensures.answers)
 
 pub returns-clause-answers : goal.returns-clause-answers
 returns-clause-answers g c =
-    ends_so (learned_then (learned_by (of_catalogue c.in_ok-walked.ensures.answers.call)) c.loop-place.invariant) (λ _ s so judged day.
-    let none = so.now judged day (so.before (nothing_told c.args.today s.catalogue.forest c.new.result c.new.ensures.empty)) in
-    ap (option_map (λ (l : ContainerOrder). l.container)) (sym none
-    ∙ ap (first_that (is_closed_to s)) (take_all c.loop-place.place c.args.loans.now (omega arith))))
+    ends_by (learned_by (of_catalogue c.in_ok-read.ensures.answers)) c.first_closed_by-2.ensures.answers (λ _ s walk found is judged day tell.
+    is judged day walk)

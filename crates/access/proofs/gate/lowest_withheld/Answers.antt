@@ -11,5 +11,5 @@ pub returns : goal.returns
 returns g c =
     record {
       answers = ends_by (learned_by (of_desk c.in_ok-loans.ensures.answers.call)) c.first_closed.ensures.answers (λ _ s are found is judged day.
-          is judged day ∙ ap (first_closed s) (c.deref.ensures.value ∙ are) ∙ sym (kept_is g.P.Versioned.version s judged));
+          is judged day tt ∙ ap (first_closed s) (c.deref.ensures.value ∙ are) ∙ sym (kept_is g.P.Versioned.version s judged));
     }

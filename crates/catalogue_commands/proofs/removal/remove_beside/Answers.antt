@@ -1,8 +1,8 @@
-use Rattle.std.proofs.Common.{◌≡◌, true}
+use Rattle.std.proofs.Common.{◌≡◌, true, None}
 use Rattle.office_core.proofs.KeptOffices.{office_kept}
 use Rattle.office_core.specs.declared.command.Command.TheVariants as command
 use Rattle.office_core.specs.declared.done.Done.TheVariants as done
-use Rattle.catalogue_commands.proofs.Common.{AreAsked, AreEnough, does_pass, has_unit, issued_of, office_of}
+use Rattle.catalogue_commands.proofs.Common.{AreAsked, AreEnough, TellOf, does_pass, has_unit, issued_of, office_of}
 use Rattle.catalogue_commands.proofs.Common.{passed_where, permit_rows, state, tables}
 use Rattle.catalogue_commands.proofs.Removed.{removes, removes_near}
 use Rattle.catalogue_commands.proofs.removal.remove_beside.Goals as goal
@@ -19,6 +19,6 @@ returns g c =
     let u = c.args.unit in
     let v = g.P.Versioned.version in
     let loans = c.args.loans.now in
-    passed_where g.S.Store g.P.Places.represents v (λ s. (c.args.today ≡ s.day) × (has_unit s.catalogue.forest u ≡ true) × AreAsked u s (issued_of (tables v s).desk) loans) (command.Remove u) c.args.today (done.Remove c.in_ok-units.units) a c.remove_branch.new.tables c.pass_gate_with.new.tables c.pass_gate_with.result (AreEnough loans)
+    passed_where g.S.Store g.P.Places.represents v (λ s. (c.args.today ≡ s.day) × (has_unit s.catalogue.forest u ≡ true) × AreAsked u s (issued_of (tables v s).desk) loans) (command.Remove u) c.args.today (done.Remove c.in_ok-units.units) a c.remove_branch.new.tables c.pass_gate_with.new.tables c.pass_gate_with.result (λ s. AreEnough loans s × TellOf s.catalogue None)
     (removes u v loans g.P.Places.represents a b c.args.today c.in_ok-units.units c.in_ok-units.ensures.removes c.in_ok-units.ensures.count)
-    (λ s sound so. removes_near u v loans s sound so.1 so.2) c.in_ok-units.ensures.writes.leaves.goes c.pass_gate_with.ensures.answers
+    (λ s sound so. (removes_near u v loans s sound so.1 so.2, tt)) c.in_ok-units.ensures.writes.leaves.goes c.pass_gate_with.ensures.answers

@@ -1,6 +1,7 @@
 use Rattle.std.proofs.Common.{sym, subst}
+use Rattle.std.proofs.lemmas.Result.{IfOk-weaker}
 use Rattle.catalogue_statements.proofs.Finding.{finds_first}
-use Rattle.catalogue_store.proofs.Common.{FindsUnit, IfOk-weaker, is_from}
+use Rattle.catalogue_store.proofs.Common.{FindsUnit, is_from}
 use Rattle.catalogue_store.proofs.catalogue.known.Goals as goal
 
 pub returns : goal.returns

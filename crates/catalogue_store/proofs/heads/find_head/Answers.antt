@@ -6,8 +6,9 @@ use Rattle.catalogue_statements.proofs.FirstTexts.{text_among_first}
 use Rattle.catalogue_statements.proofs.FoundUnits.{one_told}
 use Rattle.catalogue_statements.specs.Standings.{standing_of}
 use Rattle.catalogue_statements.specs.declared.row_types.Element.{Element}
+use Rattle.catalogue_store.specs.Heads.{head_of}
 use Rattle.catalogue_store.proofs.Common.{Database, IsPermutation, IsPermutation-refl, Unit, all_has, cut_after, early}
-use Rattle.catalogue_store.proofs.Common.{element_row, elements_of, has_id, head_of, legible_units, looks_then, nodes}
+use Rattle.catalogue_store.proofs.Common.{element_row, elements_of, has_id, legible_units, looks_then, nodes}
 use Rattle.catalogue_store.proofs.Common.{none_found, numbered_texts, same_fault, spares_full, state, still_numbered}
 use Rattle.catalogue_store.proofs.Common.{tells_cut, tells_not, tells_well, unwrap_or}
 use Rattle.catalogue_store.proofs.HeadForests.{head_told}

@@ -17,4 +17,4 @@ pub returns : goal.returns
 returns g c =
     let told = c.in_ok-there.ensures.answers in
     does_then told.looks c.take_back_held.ensures
-    (λ clean s sound so it. (so.0, so.1, sym (told.answers clean (office_row s) s.catalogue it.catalogue) ∙ c.if-not-there.false))
+    (λ clean s sound so it. (so.0, so.1, sym (told.answers clean (office_row s) s.catalogue it.catalogue) ∙ c.if-not-there.false, so.2))

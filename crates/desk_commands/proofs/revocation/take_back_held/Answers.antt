@@ -27,4 +27,5 @@ returns g c =
         unit = so.2;
         permit = sym (has_read g.P.Versioned.version s sound c.args.ticket c.args.unit c.deref.ensures.value (told.answers clean tt (tables g.P.Versioned.version s).desk it.desk)) ∙ ap is_some (sym c.last_day-until.ensures) ∙ some;
       },
+      so.3,
     ))

@@ -1,6 +1,6 @@
 use Rattle.std.proofs.Common.{ap, subst, sym, ◌∙◌}
 use Rattle.office.specs.Sight.{day_check}
-use Rattle.office.proofs.Common.{AreOfTables, Database, does_pass, does_then, early, is_refused, state, went}
+use Rattle.office.proofs.Common.{AreOfTables, Database, TellOf, does_pass, does_then, early, is_refused, office_of, state, went}
 use Rattle.office.proofs.KeptMarks.{read_alone, still_lent, touches_after}
 use Rattle.office.proofs.NamedNumbers.{performs_named, spares_named}
 use Rattle.office.proofs.Sights.{day_check_refuses}
@@ -48,7 +48,11 @@ returns-then-asks_access-clause-stays g c clean before =
     (subst (λ (db : Database). AreOfTables g.P.Places.represents g.P.Versioned.version db c.args.kept.now) (sym same) before))
 
 pub returns-clause-performs : goal.returns-clause-performs
-returns-clause-performs g c = let told = c.in_ok-row.ensures.answers in does_then told.looks (performs_named g.P.Places.represents g.P.Versioned.version _ c.args.command.now _ _ _ c.perform.ensures.performs) (λ clean s sound so it. told.answers clean tt s it)
+returns-clause-performs g c = let told = c.in_ok-row.ensures.answers in does_then told.looks (performs_named g.P.Places.represents g.P.Versioned.version _ c.args.command.now _ _ _ c.perform.ensures.performs) (λ clean s sound so it. record {
+  office = told.answers clean tt s it;
+  marks = subst (TellOf s.catalogue) (sym c.as_ref.ensures.value)
+      (c.requires.marks (early told.looks.goes.on.crash clean) (office_of s) s.catalogue it.catalogue);
+})
 
 pub returns-clause-only : goal.returns-clause-only
 returns-clause-only g c spares clean =

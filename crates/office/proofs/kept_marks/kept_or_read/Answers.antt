@@ -1,7 +1,8 @@
 use Rattle.std.proofs.Common.{List, Option, subst}
 use Rattle.catalogue_core.specs.Bounds.{IsKept}
+use Rattle.office_tables.proofs.CallEnds.{tells_well}
 use Rattle.public_queries.proofs.AidCalls.{tells_as}
-use Rattle.office.proofs.Common.{Mark, Represents, TellOf, looks_nowhere, tells_well}
+use Rattle.office.proofs.Common.{Mark, Represents, TellOf, looks_nowhere}
 use Rattle.office.proofs.kept_marks.kept_or_read.Goals as goal
 
 pub returns-in-Some : goal.returns-in-Some

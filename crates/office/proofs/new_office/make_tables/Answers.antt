@@ -1,5 +1,6 @@
+use Rattle.office_tables.proofs.CallEnds.{making_last}
 use Rattle.adoption.proofs.NewTables.{made_desk}
-use Rattle.office.proofs.Common.{MakesTables, continued, early, making_last, on_ok_both, state}
+use Rattle.office.proofs.Common.{MakesTables, continued, early, on_ok_both, state}
 use Rattle.office.proofs.HandedOn.{handed_on}
 use Rattle.office.proofs.NewTables.{making, shows_none}
 use Rattle.office.proofs.new_office.make_tables.Goals as goal

@@ -1,0 +1,18 @@
+use Rattle.std.proofs.Common.{◌∙◌}
+use Rattle.access.proofs.Gates.{enough_of}
+use Rattle.access.proofs.Learned.{ends_by, fault_first, learned_by}
+use Rattle.access.proofs.near_loans.pass_gate_near.Goals as goal
+
+pub returns-in_err-near : goal.returns-in_err-near
+returns-in_err-near g c = record { answers = fault_first c.from_residual.ensures c.in_err-near.ensures.answers }
+
+pub returns : goal.returns
+returns g c =
+    record {
+      answers = ends_by (learned_by c.in_ok-near.ensures.answers) c.pass_gate_with.ensures.answers (λ _ s asked reply is judged day known.
+          is judged day (
+            enough_of g.P.Versioned.version s judged asked.test (λ k far. known.0 k (asked.near k far)) c.deref.result.now
+                (c.deref.ensures.value ∙ asked.are),
+            known.1,
+          ));
+    }

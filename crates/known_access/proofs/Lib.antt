@@ -1,4 +1,0 @@
-pub mod Common
-mod Unpermitted
-mod ReadersMarks
-mod OpenByUnits
