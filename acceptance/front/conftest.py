@@ -2,6 +2,7 @@
 
 import difflib
 import itertools
+import re
 import sys
 from collections.abc import Callable, Iterable, Iterator
 from pathlib import Path
@@ -93,9 +94,20 @@ def approved(request: pytest.FixtureRequest) -> Callable[[str, Iterable[str]], N
         wanted = path.read_text("utf-8").splitlines() if path.exists() else []
         differs = list(difflib.unified_diff(wanted, found, "approved", "now", lineterm="", n=0))[2:]
         if differs or not found:
-            told = "\n".join(differs[:SHOWN]) or "nothing was found"
+            lines = [one for line in differs[:SHOWN] for one in in_words(line, wanted, found)]
+            told = "\n".join(lines) or "nothing was found"
             pytest.fail(f"approved/{name}.txt says otherwise (kept by --approve, if the new text is right):\n{told}", False)
     return same
+
+
+def in_words(line: str, wanted: list[str], found: list[str]) -> list[str]:
+    """A line of a difference, with the answer in which it stands; of one that says no more than `as 15` how answer 15 ends."""
+    if place := re.match(r"@@ -(\d+)", line):
+        return [" ".join([line, *[one for one in wanted[:int(place[1])] if one.startswith("=== ")][-1:]])]
+    lines, named = wanted if line[0] == "-" else found, re.match(r".as (\d+)", line)
+    begins = [at for at, one in enumerate(lines) if named and one.startswith(f"=== {named[1]}. ")]
+    ends = [at for at, one in enumerate([*lines, "=== "]) if one.startswith("=== ") and begins and at > begins[0]]
+    return [line, *(f"    {one}" for one in lines[begins[0] + 1:ends[0]][-2:])] if begins else [line]
 
 
 @pytest.fixture(scope="session")
