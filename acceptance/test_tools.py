@@ -79,14 +79,46 @@ def copy_of(place: Any, day: datetime.date, hours: float = 0) -> Path:
 def test_the_newest_copies_stay_and_of_older_ones_one_a_week_and_one_a_month(place: Any) -> None:
     days = [DAY - datetime.timedelta(past) for past in range(400)]
     for day in days:
-        copy_of(place, day)
+        copy_of(place, day).with_suffix(".tar").touch()
     tool("record-office-backup").remove_old(place.copies, DAY)
     left = sorted((path.name[7:17] for path in place.copies.glob("*.db")), reverse=True)
     assert left[:7] == [str(day) for day in days[:7]], "of the last seven days each"
     assert left[7:9] == ["2040-03-18", "2040-03-11"], "of the last four weeks the newest"
     assert left[9:] == ["2040-02-29", "2040-01-31", *(f"2039-{month}" for month in (
         "12-31", "11-30", "10-31", "09-30", "08-31", "07-31", "06-30", "05-31", "04-30"))], "of the last twelve months"
-    assert len(list(place.copies.glob("*.sha256"))) == len(left)
+    for kind in ("db.sha256", "tar"):
+        assert len(list(place.copies.glob(f"*.{kind}"))) == len(left), f"what belongs to a copy goes with it: *.{kind}"
+
+
+def test_a_folder_elsewhere_keeps_the_same_copies(place: Any, tmp_path: Path) -> None:
+    """Its disk would be full one day, and no copy come there any more."""
+    backup, copy = tool("record-office-backup"), copy_of(place, DAY)
+    days = [DAY - datetime.timedelta(past) for past in range(60)]
+    copy.with_suffix(".tar").touch()
+    for day in days:
+        (tmp_path / f"office-{day}.db").touch()
+    backup.copy_to_folder(copy, tmp_path, DAY)
+    assert len(list(tmp_path.glob("*.db"))) == len(backup.kept(days)), "the older ones go"
+    assert (tmp_path / copy.name).read_bytes() == b"an office"
+
+
+@pytest.mark.parametrize("name, words", [("record-office-backup", []), ("record-office-restore", ["--drill"]),
+                                         ("record-office-restore", ["office.db"]), ("record-office-erase", ["1"])])
+def test_no_tool_touches_an_office_at_which_another_is_at_work(place: Any, monkeypatch: Any, name: str,
+                                                               words: list[str]) -> None:
+    it, calls = tool(name), list[str]()
+
+    def called(what: str) -> None:
+        calls.append(what)
+        raise ZeroDivisionError
+    for what in ("lock", "make_folder", "state", "check"):
+        setattr(place, what, lambda *_, what=what: called(what))
+    monkeypatch.setattr(it, "Office", lambda _: place)
+    monkeypatch.setattr(sys, "argv", [name, *words])
+    monkeypatch.chdir(place.folder)
+    with pytest.raises(ZeroDivisionError):
+        it.main()
+    assert calls == ["lock"], "it is locked first"
 
 
 @pytest.mark.parametrize("hours, level", [(1, "OK"), (27, "WARNING"), (51, "CRITICAL"), (None, "CRITICAL")])
@@ -231,6 +263,23 @@ def test_after_a_restore_nothing_goes_on_with_the_index_or_the_day_of_another_of
     assert not place.day.exists(), "the day that is shown is that of the office before"
 
 
+@pytest.mark.parametrize("store, words, taken", [
+    ("none.db", [], True), ("office.db", [], False), ("office.db", ["--settings"], True)])
+def test_a_restore_takes_the_settings_where_there_was_no_office_or_if_asked_to(place: Any, monkeypatch: Any, store: str,
+                                                                               words: list[str], taken: bool) -> None:
+    """A new machine would have no passwords, names and alarms."""
+    restore, copy, took = tool("record-office-restore"), copy_of(place, DAY), list[bool]()
+    place.lock, place.store = lambda: None, place.folder / store
+    for name in ("known_settings", "erase_again", "put"):
+        monkeypatch.setattr(restore, name, lambda *_: None)
+    monkeypatch.setattr(restore, "Office", lambda _: place)
+    monkeypatch.setattr(restore, "take", lambda *_: place.folder / "new.db")
+    monkeypatch.setattr(restore, "take_what_belongs", lambda _, __, with_settings: took.append(with_settings))
+    monkeypatch.setattr(sys, "argv", ["record-office-restore", str(copy), *words])
+    restore.main()
+    assert took == [taken], "whether the settings of that night are taken"
+
+
 @pytest.fixture
 def told(place: Any, monkeypatch: Any) -> Any:
     """Tells of lines with these levels by name, and returns the subjects of what was sent."""
@@ -253,6 +302,8 @@ def test_what_is_critical_is_told_once_in_six_hours_and_once_when_it_is_mended(p
     assert told(disk=2, copy=1) == ["CRITICAL: disk"], "a warning is told in the morning"
     assert told(disk=2, copy=0) == [], "not every four minutes"
     assert told(disk=2, copy=2) == ["CRITICAL: copy"], "another cause at once"
+    os.utime(place.told("disk"), (time.time() - 5 * 3600,) * 2)
+    assert told(disk=2, copy=2) == [], "nobody reads the same each hour"
     os.utime(place.told("disk"), (time.time() - 7 * 3600,) * 2)
     assert told(disk=2, copy=2) == ["CRITICAL: disk"], "after six hours once more"
     assert told(disk=0, copy=1) == ["mended: disk"]
@@ -332,16 +383,19 @@ def test_a_name_is_written_for_nginx_to_the_letter(name: str, line: str) -> None
     ("nginx.conf", "desk-nginx.conf", ("", ""), ["http://127.0.0.1:8080", "http://localhost:8081"]),
     ("nginx.conf", "desk-nginx.conf", ("80", "90"), ["http://127.0.0.1:9090", "http://localhost:9081"]),
     ("tls.conf", "desk-tls.conf", ("", ""), ["https://archive.example.org:443", "https://desk.example.org:8443"]),
-], ids=["as the package has them", "other ports", "with TLS"])
-def test_the_probe_asks_where_the_front_listens(place: Any, monkeypatch: Any, site: str, desks: str, edit: tuple[str, str],
-                                                expected: list[str]) -> None:
-    fronts, server = tool("fronts.py"), client.TOP / "front/server"
+    ("nginx.conf", "desk-nginx.conf", "harbour", ["http://127.0.0.1:8180", "http://localhost:8181"]),
+], ids=["as the package has them", "other ports", "with TLS", "of a second office"])
+def test_the_probe_asks_where_the_front_listens(place: Any, monkeypatch: Any, site: str, desks: str,
+                                                edit: tuple[str, str] | str, expected: list[str]) -> None:
+    fronts, server, theirs = tool("fronts.py"), client.TOP / "front/server", tool("record-office-add").theirs
     monkeypatch.setattr(fronts, "conf_of", lambda *_: None)
-    place.settings = Path("/etc/record-office")
-    files = {f"/etc/record-office/{path.name}": path.read_text("utf-8") for path in server.glob("*.conf")}
-    files |= {"/etc/nginx/nginx.conf": "http { include /etc/nginx/sites-enabled/*; }",
-              "/etc/nginx/sites-enabled/record-office": (server / site).read_text("utf-8").replace(*edit),
-              "/etc/record-office/desk-nginx.conf": (server / desks).read_text("utf-8").replace(*edit)}
+    place.name, edit = (edit, ("", "")) if isinstance(edit, str) else (None, edit)
+    files = {"/etc/nginx/nginx.conf": "http { include /etc/nginx/sites-enabled/*; }"}
+    for name, settings in ((None, "/etc/record-office"), *[("harbour", "/etc/record-office/harbour")] * bool(place.name)):
+        place.settings = Path(settings)
+        files |= {f"{settings}/{path.name}": theirs(path.read_text("utf-8"), name, 8180) for path in server.glob("*.conf")}
+        for path, it in ((f"/etc/nginx/sites-enabled/{name or 'first'}", site), (f"{settings}/desk-nginx.conf", desks)):
+            files[path] = theirs((server / it).read_text("utf-8").replace(*edit), name, 8180)
     printed = "".join(f"# configuration file {path}:\n{text}\n" for path, text in files.items())
     monkeypatch.setattr(fronts.subprocess, "run", lambda *_, **__: SimpleNamespace(returncode=0, stdout=printed))
     assert [str(fronts.sites_of(place, part)[0]) for part in ("readers", "desk")] == expected
@@ -435,6 +489,9 @@ def test_an_upgrade_leaves_what_the_operator_wrote_and_brings_the_rest(machine: 
     assert (settings / "orders-from.conf").read_text() == SERVER["orders-from.conf"].read_text(), "as before, so it is new"
     assert {path.name for path in settings.iterdir()} >= set(SERVER) - set(SITES), "whatever is not there yet comes"
     assert (settings / "common.conf").is_symlink() == (office is None), "the package's files of the first office are links"
+    told = "\n".join(path.read_text() for path in settings.iterdir() if path.is_file())
+    folders = set(re.findall(r"/(?:run|var/cache|var/log/nginx)/record-office(?:-\w+)*", re.sub(r"#.*", "", told)))
+    assert office is None or [one for one in folders if not one.endswith("-harbour")] == [], "folders of the first office"
 
 
 @pytest.mark.parametrize("name", [*SITES, "desk-nginx.conf", "desk-tls.conf", "strangers.nft"])
