@@ -281,7 +281,7 @@ def test_a_code_of_a_container_is_not_taken_for_a_ticket_nor_the_other_way_round
     desk.at("/counter").scan(f"B{box}")
     desk.see("This is the code of a container. Scan a ticket.", ".wrong")
     assert desk.js("document.querySelector('[aria-invalid=true]').name") == "ticket"
-    desk.scan(f"T{ann:04}")
+    desk.scan(f"t{ann:04}")
     desk.wait("document.activeElement.name === 'container'")
     assert desk.js("document.querySelectorAll('[aria-invalid=true]').length") == 0, "the mark ends"
     desk.see("Ready at the desk: Box 2", ".about")

@@ -23,8 +23,10 @@ def office(new_office, module_room):
     """An office with an archive, of which unit 3 is closed, with readers, and with the night's copy of all that."""
     (module_room / "docks.csv").write_text(dock_company())
     (module_room / "shelves.csv").write_text(shelved("Tall|Low", "Shelf 10|Shelf 9"))
-    office = new_office(tries=True, files=[(source, module_room / f"{source}.csv") for source in ("docks", "shelves")],
-                        changes=MANY_PAGES)
+    (module_room / "hidden.csv").write_text(csv_text(unit("1", "", "Pending", identifier="HID", publicationStatus="Draft"),
+                                                     unit("2", "1", identifier="1", physicalObjectName="Sealed")))
+    files = [(source, module_room / f"{source}.csv") for source in ("docks", "shelves", "hidden")]
+    office = new_office(tries=True, files=files, changes=MANY_PAGES)
     asks = Asks(office)
     for name in READERS:
         asks.command("/desk/register", name=name, until=FAR)
@@ -135,6 +137,9 @@ def test_boxes_are_told_with_their_places_and_what_in_them_is_not_open_to_all(as
     assert [(one["name"], one["location"], [unit["code"] for unit in one["withheld"]]) for one in told] == [
         ("Box 1", "Strongroom 2", []), ("Box 2", "Strongroom 1", ["GB 0999 HUL/2", "GB 0999 HUL/2/1"]),
         ("Box 3", "Strongroom 1", [LETTERS])]
+    sealed, = json.loads(asks.send("POST", "/try/find", "Sealed", True)[1])["boxes"]
+    told, = json.loads(asks.send("POST", "/try/boxes", f"[{sealed['container']}]", True)[1])["boxes"]
+    assert [(one["code"], one["belowDraft"]) for one in told["withheld"]] == [("GB 0999 HID/1", True)], "what is below a draft"
 
 
 @pytest.mark.browser

@@ -218,7 +218,10 @@ def test_the_shell_is_told_the_gravest_first(command):
     assert (status, told.splitlines()[1][:58]) == (1, "  refused: The columns are separated by vertical bars. Con")
 
 
-def test_a_file_that_cannot_be_read_is_told_and_the_others_are_looked_at(command):
+def test_a_file_that_cannot_be_read_is_told_and_the_others_are_looked_at(command, room):
+    words = [PYTHON, FRONT / "look/record_office_look.py", "none.csv"]
+    done = subprocess.run(words, cwd=room, capture_output=True, text=True, check=False)
+    assert (done.stdout, "none.csv" in done.stderr) == ("", True), "what cannot be read is no advice, which a pipe takes"
     status, told = command("none.csv", "good.csv")
     assert status == 3 and "none.csv: No such file or directory\n" in told and "rows: 2" in told
     assert command(".")[0] == 3 and command()[0] == 2 and command("--convert", "new.csv", "good.csv", "bars.csv")[0] == 2

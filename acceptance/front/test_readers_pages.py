@@ -3,11 +3,13 @@ what the office is asked for it. `outline.py` says how a page is written down, `
 
 import html
 import json
+import os
 import pickle
 import re
 
 import alphabet
 import asking
+import languages
 import pages as module
 import pytest
 import turns
@@ -386,6 +388,24 @@ def test_searches(stage, approved):
             pages.ask(target)
     answers.clear()
     approved("readers/searches", pages.lines)
+
+
+def test_nginx_can_read_the_texts_of_the_desk_though_the_service_keeps_its_files_to_itself(room):
+    """Else the desk is in English for everybody."""
+    before = os.umask(0o077)  # as the unit of the service has it
+    languages.write(languages.load(), room / "texts")
+    os.umask(before)
+    assert {path.name for path in room.rglob("*") if path.stat().st_mode & 0o444 != 0o444} == set()
+
+
+@pytest.mark.parametrize("name, value", [("undated", "1"), ("level", "File"), ("creator", "Ada Stone")])
+def test_whoever_turns_a_page_or_changes_a_word_of_a_search_stays_within_what_was_chosen(stage, name, value):
+    """Else the next page has other units than the first one has counted."""
+    page = stage.text(f"/search?q=captain&{name}={value.replace(' ', '+')}")
+    assert f'<input type="hidden" name="{name}" value="{value}">' in page, "the form has it"
+    links = re.findall(r'href="/search[?]([^"]*)"', page)
+    assert [link for link in links if "after=" in link and f"{name}=" not in link] == [], "the next page has it"
+    assert [link for link in links if "q=captain" in link and f"{name}=" not in link] != [], "one may search without it"
 
 
 def late(*_):

@@ -6,9 +6,12 @@ import contextlib
 import io
 import socket
 import time
+from types import SimpleNamespace
 
+import asking
 import index
 import pytest
+import service
 from answers import COUNTED, SHOWN, Finder, Query
 from asking import Busy, Unreached
 from folding import read_typed
@@ -176,6 +179,21 @@ def test_a_reader_who_goes_on_to_more_units_makes_the_office_print_no_more_than_
     fill(db, 1000)
     more = find(db, Office(), after=(0, index.row_of(1, 20)))
     assert (len(more.units), more.count, more.looked) == (SHOWN, COUNTED, COUNTED + 1)
+
+
+@pytest.mark.parametrize("told, seconds", [("250", .75), (None, 10.5)])
+def test_a_round_rests_by_what_the_office_took_and_not_by_how_long_it_waited(monkeypatch, told, seconds):
+    """Else one question that waited behind others would stop rounds and finding aids for minutes."""
+    now = iter((0, 10, 10.5))  # asked; the answer begins, by the gate after 250 of the office's milliseconds; it has come
+    monkeypatch.setattr(asking, "time", SimpleNamespace(monotonic=lambda: next(now)))
+    clock = asking.Clock()
+    clock.note_head(SimpleNamespace(getheader={asking.TOOK: told}.get))
+    assert clock.took() == seconds
+
+
+@pytest.mark.parametrize("waited, left", [(0, 5), (3, 2), (9, 0)])
+def test_a_reader_is_told_after_five_seconds_also_of_who_waited_before_the_service(waited, left):
+    assert service.left({"HTTP_RECORD_OFFICE_SINCE": f"{time.time() - waited:.3f}"}) == pytest.approx(left, abs=.5)
 
 
 # Beside what the office cannot answer for

@@ -121,6 +121,15 @@ def all_places(it):
         yield
 
 
+def test_who_searches_in_a_reading_room_has_taken_an_eighth():
+    """Else one of its readers would wait for all others."""
+    it = Turns()
+    for address, is_room in (("192.0.2.1", True), ("192.0.2.2", False)):
+        with it.turn(address, is_room):
+            time.sleep(.2)
+    assert it.spent["192.0.2.1"][0] * 4 < it.spent["192.0.2.2"][0]
+
+
 def test_of_ipv6_a_house_is_one_and_its_networks_are_within_it():
     it, order = Turns(), []
     with it.turn("2001:db8:0:1::1"):

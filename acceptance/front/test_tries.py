@@ -267,6 +267,12 @@ def test_what_record_office_try_cannot_do_is_said_in_a_sentence(office, copy, ro
     assert found == status and told in said
 
 
+def test_a_file_of_an_added_office_is_tried_on_a_copy_of_that_office(room):
+    (room / "file.csv").write_text(csv_text(*BASE))
+    found, said = run_shell(room / "file.csv", "--source", "x", "--office", "harbour")
+    assert (found, said) == (1, "record-office-try: /var/backups/record-office-harbour: there is no copy of the office\n")
+
+
 @pytest.mark.slow
 def test_20000_changes_are_told_within_a_minute_of_the_processor(new_office, module_room):
     rows = [unit(str(number), "1" if number > 1 else "", f"Title {number}", identifier=str(number), scopeAndContent="x" * 200)

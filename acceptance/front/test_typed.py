@@ -10,6 +10,7 @@ import folding
 import index
 import pytest
 import questions
+import spellings
 import years
 from answers import Query
 
@@ -72,6 +73,19 @@ def test_the_table_is_large_and_a_third_of_it_is_not_english():
 def test_what_a_reader_types_finds_the_title_or_does_not(language, typed, title, found):
     assert by_words(language, typed, title) == found
     assert by_words(language, typed, title) or not by_words(None, typed, title)
+
+
+def test_a_minus_leaves_out_the_word_that_was_typed_and_no_other_form_of_it():
+    out, = questions.read("dock -letter", "en").without
+    assert [folding.occurs(out, folding.readings_of(title)) for title in ("A letter", "Letters")] == [True, False]
+
+
+def test_the_ways_in_which_a_word_is_written_begin_alike():
+    """Else, as where a semicolon is lost between two of them, Samuel would be another Joseph."""
+    ways = [group.split() for text in spellings.WAYS.values() for group in text.split(";")]
+    odd = [" ".join(group) for group in ways if all(len({begin(way) for way in group}) > 1 for begin in (
+        lambda way: way[0], lambda way: spellings.sound(way)[:1]))]
+    assert odd == ["geoffrey jeffrey", "gaol jail"]
 
 
 def test_the_index_proposes_each_title_that_is_found():
