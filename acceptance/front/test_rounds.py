@@ -181,6 +181,15 @@ def test_a_reader_who_goes_on_to_more_units_makes_the_office_print_no_more_than_
     assert (len(more.units), more.count, more.looked) == (SHOWN, COUNTED, COUNTED + 1)
 
 
+def test_a_unit_that_has_moved_is_found_within_its_new_archive(db):
+    office = Office()
+    Round(db, office).run()
+    office.below = {1: (2,), 2: (3,), 6: (4,), 4: (5,)}
+    read(db, office)
+    assert [number for _, number in index.propose(db, Query(read_typed("cranes"), 6))] == [4]
+    assert list(index.propose(db, Query(read_typed("cranes"), 1))) == [], "nor in the one before"
+
+
 @pytest.mark.parametrize("told, seconds", [("250", .75), (None, 10.5)])
 def test_a_round_rests_by_what_the_office_took_and_not_by_how_long_it_waited(monkeypatch, told, seconds):
     """Else one question that waited behind others would stop rounds and finding aids for minutes."""
