@@ -149,7 +149,7 @@ def test_what_goes_back_is_listed_in_the_order_of_the_shelves(desk, asks, state)
     asks.import_text("new", shelved("Newest", "Shelf 1"))
     state.empty()
     tall = json.loads(asks.send("POST", "/try/find", "Tall", True)[1])["boxes"][0]["container"]
-    low, newest = tall + 1, tall + 2
+    low, newest = tall + 1, tall + 3  # the box of drafts has the number between
     for order in state.fetch((5, tall), (5, newest), (5, low)):
         asks.command("/desk/cancel", order=order)
     desk.at("/out").press("Reshelve")
