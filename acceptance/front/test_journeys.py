@@ -1,6 +1,7 @@
 """Journeys of a reader: from the list of archives or a search to a unit, its order and back; by keyboard alone on a desk's
 screen and at 200 %, and by thumb on a phone. And what a list, a wide series and a long finding aid take."""
 
+import csv
 import json
 
 import pytest
@@ -36,6 +37,10 @@ IS_FOCUS_SEEN = """(() => { const box = document.activeElement.getBoundingClient
 SHOWN_BLOCKS = """[...document.querySelectorAll('.block')]
   .filter((block) => getComputedStyle(block).display !== 'none').length"""
 TYPED = "document.activeElement.dispatchEvent(new Event('input', { bubbles: true }))"
+# Counts what was asked for and has been answered, or given up.
+COUNT_ENDED = """(() => { const { send } = XMLHttpRequest.prototype; window.ended = 0;
+  XMLHttpRequest.prototype.send = function () {
+    this.addEventListener('loadend', () => { window.ended += 1; }); send.call(this); }; })()"""
 # Keeps what is saved as a file.
 CATCH_FILE = """URL.createObjectURL = (blob) => { blob.text().then((text) => { window.saved = text; }); return '#'; };
   HTMLAnchorElement.prototype.click = () => {}"""
@@ -261,15 +266,16 @@ def test_what_is_refused_stays_on_the_list_with_its_reason(hall, asks, ticket, l
 
 
 def test_a_list_of_another_page_is_shown_when_this_one_is_shown_again_as_it_was_left(hall):
-    entry = {"unit": "1", "box": "1", "head": "=1+1", "name": "@sum", "cite": "-2", "order": ""}
+    entry = {"unit": "1", "box": "1", "head": "=1+1", "name": "@sum of \"a\"", "cite": "-2", "order": ""}
     hall.visit("/ordered").js(f"sessionStorage.setItem('list', {hall.quote(json.dumps([entry]))})")
     hall.js("window.dispatchEvent(new PageTransitionEvent('pageshow', { persisted: true }))")
     hall.see("Your list (1)", "header")
-    hall.see("@sum", "ul.units")
+    hall.see('@sum of "a"', "ul.units")
     hall.js(CATCH_FILE)
     hall.press("Save the list as CSV")
     hall.wait("window.saved")
-    assert hall.js("window.saved").splitlines()[1].startswith("\"'-2\",\"'=1+1\",\"'@sum\",")
+    assert list(csv.reader(hall.js("window.saved").splitlines()))[1][:3] == ["'-2", "'=1+1", "'@sum of \"a\""], (
+        "what is saved is text, and a title with quotation marks stays in its column")
 
 
 def test_a_reader_whose_browser_keeps_nothing_is_told_so(hall, logbook):
@@ -290,14 +296,23 @@ def test_a_filter_that_is_not_answered_says_so(hall, top):
 # What the pages have
 
 def test_a_series_is_shown_a_hundred_at_a_time_and_filtered_at_each_key(hall, office, top):
-    """Back keeps the filter; a unit names those beside it, and how to cite it."""
+    """Back keeps the filter; a unit names those beside it, and how to cite it. A late answer to other words is not shown."""
     hall.visit(f"/unit/{top + 1}").see("1 to 100 of 121 units.")
     assert hall.js("document.querySelectorAll('.contents .facts')[1].textContent") == "1802 \u00b7 1 bundle"
     hall.press("Next 100")
     hall.see("101 to 121 of 121 units.")
+    hall.js(COUNT_ENDED)
+    hall.answer_with("*has=captain*", 503, b"")
+    hall.browser.answer = None  # an answer is held back
+    hall.fill("Show only units with", "captain")
+    hall.js(TYPED)
+    until(lambda: hall.count_sent("GET", "has=captain"), "the office is asked")
     hall.fill("Show only units with", "CAFE ank")
     hall.js(TYPED)
     hall.see("1 to 1 of 1 unit.")
+    hall.answer_with(None, 0, b"")  # and comes now
+    hall.wait("window.ended === 2")
+    assert "1 to 1 of 1 unit." in hall.text(), "a reader sees what other words have found"
     hall.js("document.querySelector('.contents ul.units a').click()")
     hall.see("Cafe\u0301", "h1")
     assert hall.js("[...document.querySelectorAll('nav.beside a')].map((a) => a.textContent)") == [

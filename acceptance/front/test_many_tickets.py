@@ -9,6 +9,7 @@ from acceptance.front.catalogue import archives
 pytestmark = [pytest.mark.browser, pytest.mark.needs("chromium")]
 
 MANY = 260
+LAST_DAY = 3  # a ticket that is good until the day of the newest run
 HOOK = """window.asked = []; if (!window.plain) { window.plain = window.fetch;
   window.fetch = (path, how) => { window.asked.push(path); return window.plain(path, how); }; }"""
 CARDS = "window.asked.filter((path) => path.startsWith('/desk/readers/')).length"
@@ -27,6 +28,7 @@ def office(new_office, module_room):
     for ticket in (one for one in range(98, MANY, 99) if one % 3 == 2):
         asks.command("/public/orders", ticket=ticket, container=1 + ticket // 100 % 3)
     asks.command("/desk/run")
+    asks.command("/desk/renew", ticket=LAST_DAY, until="2024-04-01")
     asks.command("/desk/day", day="2024-04-01")
     asks.command("/public/orders", ticket=2, container=4)
     asks.command("/desk/run")
@@ -85,12 +87,14 @@ def test_what_waits_is_gathered_when_somebody_asks_for_it(desk, asks):
     at(desk, "/orders")
     desk.wait(GATHERED)
     assert desk.js(ROWS) == rows, "also after the page is loaded again"
+    asks.command("/public/orders", ticket=LAST_DAY, container=5)
     valid = MANY // 3 + 1
     assert valid <= cards(desk, "Show what waits now", GATHERED) <= valid + 40, "expired tickets without orders are not read"
+    assert desk.js(ROWS) == rows + 1, "the order of a reader whose ticket is good until that day is not missed"
     asks.command("/desk/renew", ticket=1, until="2030-12-31")
     asks.command("/public/orders", ticket=1, container=5)
     assert cards(desk, "Read every card again", GATHERED) >= MANY
-    assert desk.js(ROWS) == rows + 1, "the order of a ticket that was renewed elsewhere"
+    assert desk.js(ROWS) == rows + 2, "the order of a ticket that was renewed elsewhere"
     desk.js("document.querySelector('a[href=\"/sign-out\"]').addEventListener('click', (event) => event.preventDefault())")
     desk.js("document.querySelector('a[href=\"/sign-out\"]').click()")
     assert desk.js("Object.keys(sessionStorage).filter((name) => name.includes('readers'))") == []
