@@ -1,5 +1,6 @@
 """An office with the search in all archives, and who asks it."""
 
+import http.client
 import json
 import time
 
@@ -9,7 +10,7 @@ from asking import Asking
 from folding import read_typed
 from rounds import Round
 
-from acceptance.front.asks import Asks, ask_once, body_of, status
+from acceptance.front.asks import Asks
 from acceptance.front.office import Office
 
 FOREVER = 10**6  # a round with this sweep looks at all pages
@@ -21,7 +22,7 @@ class Searched(Office):
     def __init__(self, program, folder, more=(), **how):
         changes = [("searches:2m rate=2r/s", "searches:2m rate=300r/s"), *more]
         super().__init__(program, folder, changes=changes, **how)
-        self.public_ask = None
+        self.desk, self.public_ask = None, None
 
     def ask(self, path):
         """What the public sees at this path, or None."""
@@ -32,8 +33,18 @@ class Searched(Office):
 
     def tell(self, path, body):
         """A command by the desk's way into the queue. Its status and answer."""
-        answer = ask_once(self.ports["8092"], "POST", path, body)
-        return status(answer), json.loads(body_of(answer))
+        if self.desk is None:
+            self.desk = http.client.HTTPConnection("127.0.0.1", self.ports["8092"], timeout=250)
+        data = body if isinstance(body, bytes) else json.dumps(body).encode()
+        for left in (True, False):
+            try:
+                self.desk.request("POST", path, data)
+                answer = self.desk.getresponse()
+                return answer.status, json.loads(answer.read())
+            except (ConnectionError, http.client.HTTPException):  # the kept connection was closed
+                self.desk.close()
+                if not left:
+                    raise
 
     def round(self, sweep=FOREVER, **values):
         """One round, without the service. What was asked for."""
