@@ -122,9 +122,9 @@ def test_where_only_names_and_passwords_are_told_everybody_may_do_all(front):
 
 
 def read_anew(front, part, wanted):
-    """Has the desk's nginx read its files, until a unit's route is answered so."""
+    """Has the desk's nginx read its files, until a unit's route is answered so, also by workers that end only then."""
     next(one for one in front.nginx if "desk-nginx" in str(one.args[-1])).send_signal(signal.SIGHUP)
-    until(lambda: ask(front, STAFF[part], "/desk/status")[0] == wanted, f"{part} is answered {wanted}")
+    until(lambda: {ask(front, STAFF[part], "/desk/status")[0] for _ in range(30)} == {wanted}, f"{part} is answered {wanted}")
 
 
 @pytest.fixture(scope="module")
