@@ -227,7 +227,8 @@ class Office(client.Office):
                                             env={**os.environ, **names})
 
         # Asking by nginx at each look would be too often.
-        self.wait_for_socket(self.folder / f"{KINDS[-1]}.sock", self.service)
+        for kind in KINDS:
+            self.wait_for_socket(self.folder / f"{kind}.sock", self.service)
         self.wait_for(self.public + "/help", self.service)
 
     @contextlib.contextmanager
