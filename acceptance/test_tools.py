@@ -149,7 +149,7 @@ def test_the_status_is_red_when_the_program_has_another_file_open(place: Any, af
     assert checks.store(place)[0] == checks.OK, "no program runs"
 
 
-def test_the_status_is_red_where_no_site_is_open_or_nobody_can_read_the_words_of_the_office(place: Any, monkeypatch: Any) -> None:
+def test_the_status_is_red_where_no_site_is_open_or_office_json_cannot_be_read(place: Any, monkeypatch: Any) -> None:
     checks = tool("checks.py")
     monkeypatch.setattr(checks, "sites_of", lambda *_: [])
     monkeypatch.setattr(checks, "unit_is_up", lambda _: (checks.OK, "it runs"))
