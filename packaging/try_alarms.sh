@@ -357,8 +357,10 @@ alive() {
     systemctl start record-office-probe
     same 'else it is not' "$(grep -c 'GET /all-is-well' /root/called)" 1
     echo 'ALARM_COMMAND=false' >$conf
+    rm -f /run/record-office/told-*
     systemctl start record-office-probe 2>/dev/null
     same 'a command that tells nobody is red at the desk' "$(line alarm | cut -d: -f1)" CRITICAL
+    rm -f /run/record-office/untold-*
     systemctl start record-office-readers
     kill %%
 }
