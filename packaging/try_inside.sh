@@ -88,7 +88,7 @@ staff() {
     # shellcheck disable=SC2086
     same 'the pages tell the day' "$(curl -s $ask $desk/open-day.json)" '{"day":"2024-03-02"}'
     systemctl restart record-office-desk
-    is 'begun again, the desk refuses as much' may '403 403'
+    is 'begun again, the desk refuses as much' waits may '403 403'
     record-office-staff bea --part archivist
     is 'an archivist imports' waits may '200 403'
     record-office-staff bea --remove
