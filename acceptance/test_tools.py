@@ -10,6 +10,7 @@ import importlib.util
 import json
 import os
 import re
+import signal
 import sqlite3
 import subprocess
 import sys
@@ -121,10 +122,12 @@ def test_no_tool_touches_an_office_at_which_another_is_at_work(place: Any, monke
     assert calls == ["lock"], "it is locked first"
 
 
-@pytest.mark.parametrize("hours, level", [(1, "OK"), (27, "WARNING"), (51, "CRITICAL"), (None, "CRITICAL")])
-def test_the_status_is_red_when_the_newest_copy_is_old_or_there_is_none(place: Any, monkeypatch: Any, hours: float | None,
-                                                                        level: str) -> None:
+@pytest.mark.parametrize("hours, timer, level", [(1, "active", "OK"), (27, "active", "WARNING"), (51, "active", "CRITICAL"),
+                                                 (None, "active", "CRITICAL"), (1, "inactive", "CRITICAL")])
+def test_the_status_is_red_when_the_newest_copy_is_old_or_none_will_come(place: Any, monkeypatch: Any, hours: float | None,
+                                                                         timer: str, level: str) -> None:
     checks = tool("checks.py")
+    monkeypatch.setattr(checks, "shown", lambda *_: {"ActiveState": timer})
     monkeypatch.setattr(checks.subprocess, "run", lambda *_, **__: SimpleNamespace(returncode=1, stdout="0"))
     if hours is not None:
         copy_of(place, DAY, hours)
@@ -144,6 +147,30 @@ def test_the_status_is_red_when_the_program_has_another_file_open(place: Any, af
     assert tool("levels.py").LEVELS[found] == level, text
     place.process = lambda: 0
     assert checks.store(place)[0] == checks.OK, "no program runs"
+
+
+def test_the_status_is_red_where_no_site_is_open_or_office_json_cannot_be_read(place: Any, monkeypatch: Any) -> None:
+    checks = tool("checks.py")
+    monkeypatch.setattr(checks, "sites_of", lambda *_: [])
+    monkeypatch.setattr(checks, "unit_is_up", lambda _: (checks.OK, "it runs"))
+    assert checks.page(place)[0] == checks.CRITICAL
+    (place.settings / "office.json").write_text('{"name": "Hull",}', "utf-8")
+    level, text = checks.readers(place)
+    assert (level, "office.json" in text) == (checks.CRITICAL, True), text
+
+
+def test_a_process_that_is_stopped_is_red_though_systemd_takes_it_for_active(place: Any, monkeypatch: Any) -> None:
+    checks = tool("checks.py")
+    monkeypatch.setattr(checks, "MARKS", place.folder.parent / "run")
+    with subprocess.Popen(["sleep", "60"]) as process:
+        found = {"ActiveState": "active", "SubState": "running", "MainPID": str(process.pid)}
+        monkeypatch.setattr(checks, "shown", lambda *_: found)
+        assert checks.unit_is_up("x.service")[0] == checks.OK
+        process.send_signal(signal.SIGSTOP)
+        os.waitpid(process.pid, os.WUNTRACED)
+        level, text = checks.unit_is_up("x.service")
+        process.kill()
+    assert (level, f"kill -CONT {process.pid}" in text) == (checks.CRITICAL, True), text
 
 
 def test_who_erases_a_reader_is_told_of_each_copy_that_has_the_name(place: Any) -> None:
@@ -314,6 +341,7 @@ def test_what_is_critical_is_told_once_in_six_hours_and_once_when_it_is_mended(p
 def test_what_follows_from_another_cause_is_told_once_that_is_mended(told: Any) -> None:
     assert told(program=2, queue=2, page=2, command=2, disk=2) == ["CRITICAL: program, disk"]
     assert told(program=0, queue=0, page=2, command=0, disk=2) == ["CRITICAL: page", "mended: program"]
+    assert told(page=0, nginx=2, certificate=2, disk=2) == ["CRITICAL: nginx", "mended: page"]
 
 
 @pytest.mark.parametrize("text, level, told", [

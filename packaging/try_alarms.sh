@@ -217,6 +217,10 @@ certificates() {
     fault certificate 'a certificate that was renewed and not loaded' "certificate 90 $both" "$load"
     fault certificate 'one that the desk has not loaded' "certificate 120 $both; systemctl reload nginx" "$load"
     fault certificate 'one that ends in two days' "certificate 2 $both; $load" "certificate 30 $both; $load"
+    fault certificate 'one that has ended' "certificate 0 $both; $load" "certificate 30 $both; $load"
+    fault nginx 'a key of another certificate' 'openssl genrsa -out /etc/record-office/key.pem' "certificate 30 $both; $load"
+    fault nginx 'without nginx, which has a certificate' 'systemctl stop nginx' 'systemctl start nginx'
+    fault desk 'without the desk, which has one' 'systemctl stop record-office-desk' 'systemctl start record-office-desk'
     fault certificate 'one of another name' "certificate 30 DNS:archive.example.org; $load" "certificate 30 $both; $load"
     certificate 10 $both && $load
     sleep 1
@@ -235,9 +239,13 @@ certificates() {
     nginx -t -q && systemctl reload nginx && systemctl restart record-office-desk
 }
 
+# Another program that has the port of the office's.
+other="python3 -c 'import socket, time; _ = socket.create_server((\"127.0.0.1\", 8090)); time.sleep(300)'"
+
 # What breaks on a disk: the office on one of its own is read-only, full, damaged.
 disks() {
-    local folder=${office%/*} restart='systemctl reset-failed record-office; systemctl restart record-office record-office-queue'
+    local folder=${office%/*} restart='systemctl reset-failed record-office; systemctl restart record-office record-office-queue' again
+    again='systemctl stop record-office; systemctl start record-office; sleep 10'
     systemctl stop record-office record-office-try
     truncate -s 300M /root/disk && mkfs.ext4 -q /root/disk && cp -a "$folder" /root/kept
     if mount -o loop,errors=remount-ro /root/disk "$folder"; then
@@ -252,8 +260,17 @@ disks() {
     waits is_answered
     fault 'command, disk' 'a full disk' "head -c 300M /dev/zero >$folder/filler" "rm $folder/filler"
     systemctl stop record-office record-office-try && umount "$folder" && systemctl start record-office record-office-try
-    fault program 'a program that cannot be executed' 'chmod 644 /usr/bin/record_office; systemctl restart record-office; sleep 10' \
-        "chmod 755 /usr/bin/record_office; $restart"
+    fault disk 'a full disk of the copies' "mount -t tmpfs -o size=1m none $copies" "umount $copies"
+    fault disk 'one without inodes' "mount -t tmpfs -o nr_inodes=500 none $copies" "umount $copies"
+    fault disk 'one that is read-only' "mount --bind $copies $copies; mount -o remount,bind,ro $copies" "umount $copies"
+    fault store 'an office that was moved' "mv $office $office.away" "mv $office.away $office"
+    fault store 'one that was replaced' "mv $office $office.away; cp -p $office.away $office" "mv $office.away $office"
+    fault program 'an office of root' "chown root $office; $again" "chown record-office $office; $restart"
+    fault program 'a hard link to it' "ln $office $folder/twin; $again" "rm $folder/twin; $restart"
+    # shellcheck disable=SC2016  # the shell that is called expands it
+    fault program 'a port that another has' "systemctl stop record-office; $other & echo \$! >/root/other; sleep 1; $again" \
+        'kill $(cat /root/other);'" $restart"
+    fault program 'a program that cannot be executed' "chmod 644 /usr/bin/record_office; $again" "chmod 755 /usr/bin/record_office; $restart"
     fault program 'a damaged page' "systemctl stop record-office; rm -f $office-wal; cp -p $office /root/office.db
         dd if=/dev/urandom of=$office bs=4096 seek=5 count=2 conv=notrunc; systemctl start record-office; sleep 10" \
         "cp -p /root/office.db $office; rm -f $office-wal; $restart"
@@ -263,18 +280,36 @@ disks() {
 
 # What else may break. Each is red in its line, and nothing that follows from it is told.
 parts() {
-    local part site=/etc/nginx/sites-available/record-office staff=/etc/record-office/staff unit=record-office-backup
+    local part unit=record-office-backup staff=/etc/record-office/staff index=/var/cache/private/record-office-readers
+    local site=/etc/nginx/sites-available/record-office own=/usr/share/record-office/own share=/usr/share/record-office/server
+    local open=/etc/nginx/sites-enabled/record-office load='systemctl reload nginx; sleep 1' hash="\\\$6\\\$a\\\$b"
     for part in queue readers desk try; do
         fault $part "without record-office-$part" "systemctl stop record-office-$part" "systemctl start record-office-$part"
+        fault $part "one that hangs" "systemctl kill -s STOP record-office-$part" "systemctl kill -s CONT record-office-$part"
         loop $part
     done
     fault program 'a program that was stopped' 'systemctl stop record-office' 'systemctl start record-office'
     fault nginx 'without nginx' 'systemctl stop nginx' 'systemctl start nginx'
+    fault nginx 'an nginx that hangs' 'systemctl kill -s STOP nginx' 'systemctl kill -s CONT nginx'
+    fault page 'a site that is not open' "mv $open /root/open; $load" "mv /root/open $open; $load"
+    fault page 'one that has other pages' "sed -i '/server_name/s/$/ return 404;/' $site; $load" "sed -i 's/ return 404;//' $site; $load"
+    fault queue 'a queue that would not start again' "cp --remove-destination $share/haproxy.cfg /etc/record-office/; echo nonsense >>/etc/record-office/haproxy.cfg" \
+        "ln -sf $share/haproxy.cfg /etc/record-office/"
+    fault readers 'an index that cannot be made' "chmod 500 $index; rm -f $index/index.db*" \
+        "chmod 700 $index; systemctl restart record-office-readers; sleep 5"
+    fault readers "an office's words that cannot be read" 'echo , >>/etc/record-office/office.json' "cp $own/office.json /etc/record-office/"
     fault nginx 'a site that nginx would not take' "echo nonsense >>$site" "sed -i '/nonsense/d' $site"
     fault staff 'an empty file of the staff' "cp -p $staff /root/staff; : >$staff" "cp -p /root/staff $staff"
+    fault staff 'none' "mv $staff /root/staff" "mv /root/staff $staff"
+    fault staff 'one with a password' "echo ann:secret >>$staff" "sed -i /^ann/d $staff"
+    fault staff 'one with a part that there is not' "echo ann:$hash:part=porter >>$staff" "sed -i /^ann/d $staff"
+    fault staff 'one with a part that the desk has not read' "echo ann:$hash:part=counter >>$staff" "sed -i /^ann/d $staff"
     fault staff 'one that nginx cannot read' "chmod 600 $staff" "chmod 640 $staff"
     fault copy 'a backup that fails' "echo COPY_COMMAND=false >/etc/record-office/backup.conf; systemctl start $unit" \
-        "cp /usr/share/record-office/own/backup.conf /etc/record-office/; systemctl start $unit"
+        "cp $own/backup.conf /etc/record-office/; systemctl start $unit"
+    fault copy 'another folder that is not there' "echo COPY_FOLDER=/srv/none >/etc/record-office/backup.conf; systemctl start $unit" \
+        "cp $own/backup.conf /etc/record-office/; systemctl start $unit"
+    fault copy 'no night' "systemctl stop $unit.timer" "systemctl start $unit.timer"
     fault copy 'a clock that is behind' "touch -d '2 days' $copy" "touch $copy"
     fault copies 'a copy with another letter' "sed -i s/Hull/Hell/ $copy; rm -f /run/record-office/sums*" "systemctl start $unit"
     fault drill 'a copy that cannot be restored' "tar -cf ${copy%.db}.tar -C / etc/hostname; sed -i '/tar/d' $copy.sha256
@@ -321,6 +356,11 @@ alive() {
     systemctl stop record-office-readers
     systemctl start record-office-probe
     same 'else it is not' "$(grep -c 'GET /all-is-well' /root/called)" 1
+    echo 'ALARM_COMMAND=false' >$conf
+    rm -f /run/record-office/told-*
+    systemctl start record-office-probe 2>/dev/null
+    same 'a command that tells nobody is red at the desk' "$(line alarm | cut -d: -f1)" CRITICAL
+    rm -f /run/record-office/untold-*
     systemctl start record-office-readers
     kill %%
 }

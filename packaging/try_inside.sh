@@ -72,6 +72,29 @@ sites() {
     serve record-office
 }
 
+# may STATUS: how somebody who was named at the shell imports, and sees who was here
+may() {
+    [ "$(status -u bea:quiet-ink --data-binary @/root/archives.csv $desk/desk/import/archives) $(status -u bea:quiet-ink $desk/lists/visits.csv)" = "$1" ]
+}
+
+# The parts of the staff, which the desk's nginx reads when it begins and when it is reloaded.
+staff() {
+    local ask='-u bea:quiet-ink'
+    echo quiet-ink | record-office-staff bea --part counter
+    is 'the counter may not import, nor see who was here' waits may '403 403'
+    # shellcheck disable=SC2086
+    same 'it opens a day, and gives a ticket' "$(status $ask -d '{"day":"2024-03-02"}' $desk/desk/day) $(curl -s $ask -d \
+        '{"name":"Gil","until":"2030-12-31"}' $desk/desk/register | tr -d 0-9)" '200 {"ticket":}'
+    # shellcheck disable=SC2086
+    same 'the pages tell the day' "$(curl -s $ask $desk/open-day.json)" '{"day":"2024-03-02"}'
+    systemctl restart record-office-desk
+    is 'begun again, the desk refuses as much' waits may '403 403'
+    record-office-staff bea --part archivist
+    is 'an archivist imports' waits may '200 403'
+    record-office-staff bea --remove
+    is 'who was removed may do nothing' waits may '401 401'
+}
+
 # The second office, which the lines of OPERATING added.
 second() {
     local before settings=/etc/record-office/harbour second_copies=/var/backups/record-office-harbour
@@ -248,6 +271,7 @@ after() {
         "$(journalctl --no-pager -o cat -u record-office | grep -c '^the program ended: ')"
 
     links
+    staff
     sites
     second
     upgrades

@@ -44,6 +44,8 @@ stops() {
     rm -rf /var/cache/private/$unit/* /var/cache/$unit/*
     systemctl start $unit
     is 'without its index too' found "$(word)"
+    for file in "/var/cache/private/$unit"/index.db*; do head -c 8192 /dev/urandom >"$file"; done
+    is 'and with a damaged one' found "$(word)"
 }
 
 # What a process may do that is begun as the service is: a line each.

@@ -15,7 +15,7 @@ AGAIN = 6 * 3600  # seconds after which what is still red is told again
 MORNING = 20 * 3600  # the same for what is no more than a warning, which is told in the morning
 # What is red while one of these is red follows from it, and is not told by itself.
 FOLLOWS = {"page": {"program", "queue", "readers", "nginx"}, "desk": {"program", "queue"}, "command": {"program", "queue"},
-           "queue": {"program"}}
+           "queue": {"program"}, "certificate": {"nginx", "desk"}}
 
 
 @contextlib.contextmanager

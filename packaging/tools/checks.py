@@ -68,12 +68,16 @@ def restarts(unit, many):
 
 def unit_is_up(unit):
     """The level of a unit that should run, its state, and what to do."""
-    found = shown(unit, "ActiveState", "SubState", "Result", "ExecMainStatus", "NRestarts", "ConditionResult")
+    found = shown(unit, "ActiveState", "SubState", "Result", "ExecMainStatus", "NRestarts", "ConditionResult", "MainPID")
     state = f"{found.get('ActiveState')} {found.get('SubState')}"
     again = restarts(unit, int(found.get("NRestarts") or 0))
     if again >= RESTARTS:
         return CRITICAL, f"{unit} has ended {again} times since the last look: journalctl -u {unit}"
     if state == "active running":
+        process = found["MainPID"]
+        words = re.search(r"^State:\s*(\w)", pathlib.Path(f"/proc/{process}/status").read_text(), re.M)
+        if words and words[1] in "TtZ":
+            return CRITICAL, f"process {process} is stopped: kill -CONT {process}"
         return OK, f"{unit} is {state}"
     if found.get("ExecMainStatus") == NO_PROGRAM:
         return CRITICAL, f"{unit} cannot execute its program: apt-get install --reinstall record-office"
@@ -85,14 +89,10 @@ def unit_is_up(unit):
 
 
 def program(office):
-    """Whether the program runs, and is not stopped."""
+    """Whether the program runs."""
     if is_held(office):
         return OK, f"a tool has stopped {office.unit} for a moment"
     level, text = unit_is_up(office.unit)
-    if level == OK:
-        words = re.search(r"^State:\s*(\w)", pathlib.Path(f"/proc/{office.process()}/status").read_text(), re.M)
-        if words and words[1] in "TtZ":
-            return CRITICAL, f"process {office.process()} is stopped: kill -CONT {office.process()}"
     why = MARKS / f"ended-{office.unit}"
     if level != OK and why.exists():
         text = f"{why.read_text(encoding='utf-8').strip()}; then systemctl start {office.unit}"
@@ -118,21 +118,31 @@ def store(office):
 
 
 def queue(office):
-    """Whether the queue runs."""
-    return unit_is_up(office.unit_of("queue"))
+    """Whether the queue runs, and would start again with its configuration."""
+    path = office.settings / "haproxy.cfg"
+    level, text = unit_is_up(office.unit_of("queue"))
+    tried = subprocess.run(["haproxy", "-c", "-q", "-f", path], text=True, capture_output=True)
+    if level == OK and tried.returncode:
+        return CRITICAL, f"with {path} it would not start again: {tried.stderr.strip().partition(chr(10))[0]}"
+    return level, text
 
 
 def readers(office):
-    """The service of the readers' pages, and the last round of its index."""
+    """The service of the readers' pages, the office's own words, and the last round of the index."""
     unit = office.unit_of("readers")
     level, text = unit_is_up(unit)
     if level != OK:
         return level, text
+    own = office.settings / "office.json"
+    try:
+        json.loads(own.read_bytes() if own.exists() else "{}")
+    except ValueError as wrong:
+        return CRITICAL, f"pages lack the office's name, since {own} cannot be read: {wrong}"
     index = pathlib.Path("/var/cache/private", unit.removesuffix(".service").replace("@", "-"))
     changed = [path.stat().st_mtime for path in index.glob("index.db*")]
     minutes = (time.time() - max(changed)) / 60 if changed else None
     if minutes is None:
-        return WARNING, f"{text}, and has no index yet"
+        return CRITICAL, f"{text}, and nothing is found, since {index} has no index: journalctl -u {unit}"
     text += f", the last round was {minutes:.0f} minutes ago"
     return (WARNING, f"{text}: systemctl restart {unit}") if minutes > ROUND else (OK, text)
 
@@ -165,9 +175,16 @@ def behind(office):
     return Site("127.0.0.1", office.port + TO_DESK, "127.0.0.1", False)
 
 
+def front(office, part, path, expected):
+    """The same of an address of a part of the front, wherever nginx has it first."""
+    for site in sites_of(office, part):
+        return answers(office, site, path, expected)
+    return CRITICAL, f"no server of nginx has the {part} pages: is the site linked in /etc/nginx/sites-enabled?"
+
+
 def page(office):
-    """Whether the readers' page is answered, wherever nginx has it."""
-    return worst(answers(office, site, "/", {200}) for site in sites_of(office, "readers")[:1])
+    """Whether the readers' page is answered."""
+    return front(office, "readers", "/", {200})
 
 
 def desk(office):
@@ -175,8 +192,7 @@ def desk(office):
     level, text = unit_is_up(office.unit_of("desk"))
     if level != OK:
         return level, text
-    asked = [answers(office, site, "/desk/issued", {401, 403}) for site in sites_of(office, "desk")[:1]]
-    return worst([*asked, answers(office, behind(office), "/desk/issued", {200})])
+    return worst([front(office, "desk", "/desk/issued", {401, 403}), answers(office, behind(office), "/desk/issued", {200})])
 
 
 def command(office):
@@ -231,10 +247,13 @@ def staff(office):
 
 
 def copy(office):
-    """The backup's unit, and the age of the newest copy that has the sum of a sound one."""
+    """The backup's unit and timer, and the age of the newest copy that has the sum of a sound one."""
     backup = office.unit_of("backup")
+    timer = backup.replace(".service", ".timer")
     if subprocess.run(["systemctl", "--quiet", "is-failed", backup]).returncode == 0:
         return CRITICAL, f"{backup} has failed: journalctl -u {backup}, then systemctl start {backup}"
+    if shown(timer, "ActiveState").get("ActiveState") == "inactive":
+        return CRITICAL, f"nothing is copied at night: systemctl enable --now {timer}"
     good = [path for path in copies_in(office.copies).values() if sum_of(path).exists()]
     if not good:
         hours = (time.time() - born(office.store)) / 3600

@@ -117,8 +117,6 @@ def sites_of(office, part):
         passed = re.compile(f"http://record_office_{f'{office.name}_' if office.name else ''}(?:pages|service)")
         found = sites_in(Configuration().directives, lambda server: (
             any(passed.fullmatch(words[0]) for words, _ in every(server, "proxy_pass"))))
-    if not found:
-        raise Trouble(f"no server of nginx has the {part} pages: is the site linked in /etc/nginx/sites-enabled?")
     return found
 
 
