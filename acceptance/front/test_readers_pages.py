@@ -457,6 +457,7 @@ def test_pages_in_other_languages(stage, approved):
     for code in LANGUAGES:
         pages.ask(f"/unit/{note + 4}" if code in ("de", "fr") else "/no", accept_language=code)
     pages.ask(f"/unit/{HUL + 1}", accept_language="de")
-    pages.ask("/search?q=anker&from=1800", accept_language="de")
+    for args in ("q=anker&from=1800", "q=anker&from=1900&to=1800", "q=index"):  # what begins like the last finds more
+        pages.ask(f"/search?{args}", accept_language="de")
     pages.ask(f"/unit/{note + 1}/order", [("ticket", 1), ("container", 33), ("container", 34)], accept_language="fr")
     approved("readers/in_languages", pages.lines)

@@ -379,9 +379,10 @@ def test_what_is_offered_for_a_word_that_finds_nothing(small):
         assert offered(typed) == wanted, typed
     import_rows(small, "w", "1,,W,Stadtrat,Fonds,Published,,", "2,1,1,Juden: Schutzbriefe,File,Published,,",
                 "3,1,2,Tramcar at the depot,File,Published,,", "4,1,3,Glasplattennegative,File,Published,,",
-                "5,1,4,Trauungsbuch,File,Published,,")
+                "5,1,4,Trauungsbuch; Забастовки,File,Published,,")
     for typed, wanted in (("Judenschutzbrief", ["juden schutzbrief", "juden"]), ("tram car", ["tramcar"]),
-                          ("Glasnegative", ["glasplattennegative"]), ("Heiratsbuch", ["trauungsbuch"]),
+                          ("Glasnegative", ["glasplattennegative"]),
+                          ("zabastovka", ["забастовки"]), ("Heiratsbuch", ["trauungsbuch"]),
                           ("Stadtratschutzbriefe 1750", ["stadtrat schutzbriefe", "schutzbriefe"])):
         assert offered(typed, "de") == wanted, typed
 

@@ -111,6 +111,8 @@ def test_if_nothing_has_all_words_the_units_that_have_most_are_shown(office: Sea
                  "there was time to look for it")[0]
     assert told["lacking"] == ["accounts"] and len(told["units"]) == 2
     assert "lacking" not in answer(office, "cholera") and "lacking" not in answer(office, "accounts")
+    told = answer(office, "Edward Thackeray wedding")  # who made the fonds; what is closed there is not told
+    assert (told["lacking"], len(told["units"])) == (["Edward", "Thackeray"], 1)
 
 
 @pytest.mark.parametrize(("typed", "more", "wanted", "undated"), [

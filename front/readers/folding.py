@@ -25,11 +25,13 @@ LONGEST = 1000  # characters that are read of what was typed
 MOST = 64  # words or phrases
 SHORTEST_STEM = 3  # letters
 STEMMERS = {"ar": "arabic", "da": "danish", "de": "german", "el": "greek", "en": "english", "es": "spanish", "fi": "finnish",
-            "fr": "french", "it": "italian", "nl": "dutch", "no": "norwegian", "pt": "portuguese", "ru": "russian",
-            "sv": "swedish"}
-SCRIPTS = (("\u0370", "\u03ff", "el"), ("\u0400", "\u04ff", "ru"), ("\u0590", "\u05ff", "he"), ("\u0600", "\u06ff", "ar"))
+            "fr": "french", "hy": "armenian", "it": "italian", "nl": "dutch", "no": "norwegian", "pt": "portuguese",
+            "ru": "russian", "sv": "swedish"}
+SCRIPTS = (("\u0370", "\u03ff", "el"), ("\u0400", "\u04ff", "ru"), ("\u0530", "\u058f", "hy"),
+           ("\u0590", "\u05ff", "he"), ("\u0600", "\u06ff", "ar"), ("\u10a0", "\u10ff", "ka"))
 LEFT = {"el": ("ι", "γι", "ατ"), "ru": ("ов", "ев")}  # what a stemmer leaves at some forms of a word
-ENDINGS = {"el": re.compile("(?<=[αηιο])ν$"), "he": re.compile("(?:ים|יות|ות|ה|ת)$")}  # what goes before, or without one
+ENDINGS = {"de": re.compile("(?<=...in)nen$"), "el": re.compile("(?<=[αηιο])ν$"), "he": re.compile("(?:ים|יות|ות|ה|ת)$"),
+           "ka": re.compile("(?:ებ)?(?:ის|ით|ად|მა|ს|ი|ა|ო)?$")}  # what goes before, or without one
 
 TABLES = read_shared("words.json")
 LETTERS = str.maketrans(TABLES["letters"] | dict(zip(TABLES["traditional"], TABLES["simplified"]))

@@ -9,7 +9,7 @@ from folding import SHORTEST_STEM, folded_words, is_kin, readings_of
 from spellings import sound
 from texts import creators_in, may_be_from_above, read_head, value_of, years_of
 
-VERSION = 5
+VERSION = 6
 BETWEEN = " \ue000 "  # a word that no text has, between two readings or values: no phrase reaches from one into the next
 ARCHIVE = 10**10  # a row of `words` has the number of its archive times this, and its own: archives come one by one
 LAST_ARCHIVE = 2**63 // ARCHIVE - 1  # and those after it together
@@ -402,9 +402,13 @@ def words_from(db, begin, many, lengths=(1, 10**6)):
 
 
 def alike(db, word, many):
-    """The words of the index that sound like one, and those that differ from it in their first letters only, up to so many of
-    each."""
-    heard = db.execute("SELECT word FROM vocabulary WHERE sound = ? AND sound <> '' LIMIT ?", (sound(word), many))
+    """The words of the index that sound like one, at the end perhaps with another consonant if they are of another script, and
+    those that differ from it in their first letters only, up to so many of each."""
+    own = sound(word)
+    heard = db.execute("SELECT word FROM vocabulary WHERE sound = ? AND sound <> '' LIMIT ?", (own, many)).fetchall()
+    if len(own) > 3:
+        ends = db.execute("SELECT word FROM vocabulary WHERE sound >= ? AND sound <= ? LIMIT ?", (own[:-1], f"{own}z", many))
+        heard += [(one,) for one, in ends if one.isascii() != word.isascii()]
     swapped = word[1:2] + word[:1] + word[2:]
     others = db.execute("SELECT word FROM vocabulary WHERE substr(word, 2) IN (?, ?) OR word IN (?, ?) LIMIT ?",
                         (word[1:], word, word[1:], swapped, many))

@@ -12,6 +12,7 @@ from os.path import commonprefix
 import folding
 import index
 import questions
+from spellings import LATIN
 
 OFFERED, TRIED, SECONDS = 6, 200, 1.5  # of one answer: offers; words that are tried for one that was typed; time
 SHORTEST, ALIKE, POOL = 3, .75, 20_000  # letters of a word; how much alike words are; words that are compared
@@ -95,7 +96,7 @@ def near(db, word, language):
     longer = sorted(index.words_from(db, word, POOL, (len(word) + 1, len(word) + LONGER)), key=lambda one: (len(one), one))
     spelled = index.words_from(db, word[:1], POOL, (max(SHORTEST, len(word) - 2), len(word) + 2))
     close = difflib.get_close_matches(word, spelled, TRIED, ALIKE)
-    heard = difflib.get_close_matches(word, set(index.alike(db, word, TRIED)) - {word}, TRIED, HEARD)
+    heard = [one for one in dict.fromkeys(index.alike(db, word, TRIED)) if one != word and ratio(word, one) >= HEARD]
     ends = index.words_with_end(db, word, TRIED) if len(word) >= COMPOUND else []
     least = SHARED if language in COMPOUNDING else len(word) // 2 + 1
     share = [*index.words_from(db, word[:least], TRIED), *index.words_with_end(db, word[-least:], TRIED)] * (len(word) > least)
@@ -109,8 +110,8 @@ def shared(one, other):
 
 
 def ratio(one, other):
-    """How much alike two words are."""
-    return difflib.SequenceMatcher(None, other, one).ratio()
+    """How much alike two words are, in Latin letters."""
+    return difflib.SequenceMatcher(None, other.translate(LATIN), one.translate(LATIN)).ratio()
 
 
 def longer(answer, typed, language):

@@ -374,7 +374,8 @@ class Pages:
         is_away = told["state"] in ("late", "unreached") and not units
         return self.render(request, "search.html", 503 if is_away else 200, told=told, units=units, scopes=scopes,
                            within=within, offers=[(text, address(q=text)) for text in told.get("offers", ())],
-                           longer=[(text, address(q=text)) for text in told.get("longer", ())][:1],
+                           longer=[(text, address(q=text)) for text in told.get("longer", ())],
+                           reverse=address(**{"from": request.args.get("to"), "to": request.args.get("from")}),
                            more=address(after=told.get("after")), undated=address(undated=1),
                            facets=facets_of(request, told, scopes, address),
                            chosen=[(name, request.language.say(label), value) for name, label, value in chosen],

@@ -1,6 +1,10 @@
 """Words that are written in several ways in the catalogues of a language, folded: names and their short forms, titles,
-ordinals. Who types one finds the others."""
+ordinals, months in several languages. Who types one finds the others. front/shared/words.json has the months, and how letters
+of other scripts are written in Latin ones, roughly, by people who have no such keys."""
 
+from texts import read_shared
+
+TABLES = read_shared("words.json")
 WAYS = {
     "en": "saint st ste; street st; william wm; thomas thos; charles chas; james jas; john jno; robert robt; george geo;"
           "joseph jos; samuel saml; edward edwd; richard richd; daniel danl; benjamin benj; alexander alexr; frederick fredk;"
@@ -10,7 +14,7 @@ WAYS = {
           "professor prof; mount mt; volume vol; department dept; association assoc assn; society soc;"
           "committee cttee; government govt; harbour harbor; labour labor; neighbour neighbor; parlour parlor; centre center;"
           "theatre theater; defence defense; gaol jail; plough plow; enclosure inclosure; enclosed inclosed;"
-          "photographs photos photographies; photograph photo",
+          "photographs photos photographies; photograph photo; catalogue catalog",
     "de": "sankt st; strasse str; nummer nr; doktor dr; professor prof; gebruder gebr; band bd; jahrhundert jh jhd jahrh;"
           "bezirk bez; abteilung abt; gesellschaft ges; friedrich fr friedr; johann joh johannes;"
           "wilhelm wilh; heinrich heinr; witwe wwe;"
@@ -35,6 +39,7 @@ def _table():
               for language, text in WAYS.items() for group in text.split(";")]
     groups += [("en", [(word,), (str(number), {1: "st", 2: "nd", 3: "rd"}.get(number, "th"))])
                for number, word in enumerate(ORDINALS, 1)]
+    groups += [(language, [(word,) for word in group.split()]) for language in WAYS for group in TABLES["months"]]
     table = {}
     for language, group in groups:
         for one in group:
@@ -57,13 +62,16 @@ def others(words, language):
     return found
 
 
+LATIN = {ord(letter): latin for latin, letters in TABLES["latin"].items() for letter in letters}
 SOUNDS = (("sch", "s"), ("ch", "k"), ("ck", "k"), ("ph", "f"), ("th", "t"), ("qu", "k"), ("x", "ks"), ("c", "k"), ("q", "k"),
           ("z", "s"), ("w", "v"))
-SILENT = frozenset("aeiouyhjαειηουωυаеиоуыэюяйьъ")
+SILENT = frozenset("aeiouyhj")
 
 
 def sound(word):
-    """What words that sound alike have in common, roughly: their consonants. Nothing if there are fewer than two."""
+    """What words that sound alike have in common in any script, roughly: their consonants. Nothing if there are fewer than
+    two."""
+    word = word.translate(LATIN)
     for letters, one in SOUNDS:
         word = word.replace(letters, one)
     heard = ""

@@ -1,5 +1,6 @@
 """Years as archives and readers write them, in five languages: `1893-96`, `1774/5`, `MDCCCXCIII`, `1890er`, `late 19th
-century`, `Anfang 16. Jh.`, `vers 1850`, `siglo XIX`, `19ος αιώνας`, `after 1945`.
+century`, `Anfang 16. Jh.`, `vers 1850`, `siglo XIX`, `19ος αιώνας`, `after 1945`; and as archives of others do: `XIX в.`,
+`18. stol.`, `明治20年`, `1300 هـ`, `תר״ן`.
 
 The words of all languages count in each, since a catalogue may have others than its reader. What is not exact is taken
 widely: what may be of a year should be found by it."""
@@ -14,12 +15,12 @@ LONGEST = 4000  # letters of dates that are read
 NEAR = 5  # years before and after one that is only about right
 AFTER, EVER = 20, 9999  # years after `after 1945` in dates; the last of what has no end
 PARTS = {"early": (0, .4), "mid": (.3, .7), "late": (.6, 1)}
-ORDINALS = ("", "1st 1re 1ere 1 first erste? ersten erstes premiere? primera? primer πρωτοσ? πρωτη α'?",
-            "2nd 2eme 2e 2 second zweite[ns]? deuxieme seconde segund[ao] δευτεροσ? δευτερη β'?",
+ORDINALS = ("", "1st 1re 1ere 1a 1 first erste? ersten erstes premiere? primera? primer πρωτοσ? πρωτη α'? перв(?:ая|ои)",
+            "2nd 2eme 2e 2a 2 second zweite[ns]? deuxieme seconde segund[ao] δευτεροσ? δευτερη β'? втор(?:ая|ои)",
             "3rd 3eme 3e 3 third dritte[ns]? troisieme tercer[ao]? τριτοσ? γ'?",
             "4th 4eme 4e 4 fourth vierte[ns]? quatrieme cuart[ao] τεταρτοσ? δ'?")
 LAST = "last|letzte[ns]?|derniere?|ultim[ao]|τελευταιοσ?"
-PIECES = {2: "half halfte moitie mitad μισο ημισυ", 3: "third drittel tiers tercio τριτο",
+PIECES = {2: "half halfte moitie mitad μισο ημισυ половина пол poł pol polovina", 3: "third drittel tiers tercio τριτο",
           4: "quarter viertel quart cuarto τεταρτο"}
 CENTURIES = {word: number for number, words in {
     12: "twelfth zwolfte[ns]? douzieme doce", 13: "thirteenth dreizehnte[ns]? treizieme trece",
@@ -33,9 +34,10 @@ TO = (r"(?:\s{0,3}[-\u2010-\u2015/]\s{0,3}|,?\s{1,3}(?:to|till|until|and|or|bis|
       r"(?:\s{1,3}(?:the|das|dem|zum|le|el|la|los|το|τη|τον))?\s{1,3})")
 OF = r"(?:\s{0,3}(?:of|the|in|des|der|den|dem|die|das|im|du|de|del|la|los|les|le|του|τησ|των|τα)\b){0,3}[\s-]{0,3}"
 WORDS = {
-    "early": r"early|beginning|anfang|fruhe[sn]?|beginn|debut|principios|comienzos|inicios|αρχεσ|αρχη|in\.",
+    "early": r"early|beginning|anfang|fruhe[sn]?|beginn|debut|principios|comienzos|inicios|αρχεσ|αρχη|in\.|начал[оа]|poczatek|"
+             r"zacatek|pocatek|inizio|begin",
     "mid": r"mid|middle|mitte|milieu|mediados|μεσα",
-    "late": r"late|end|ende|spate[sn]?|ausgehende[sn]?|fin|finales|fines|τελη|τελοσ|ultimos"}
+    "late": r"late|end|ende|spate[sn]?|ausgehende[sn]?|fin|finales|fines|τελη|τελοσ|ultimos|кон(?:ец|ца)|koniec|konec|fine"}
 PART_WORDS = "|".join(WORDS.values())
 FIRST = r"(?:first|1st|erste[nrs]?|1\.|premiere|1ere|1re|primera|1a|πρωτο[συ]|α'?)"
 SECOND = r"(?:second|2nd|zweite[nrs]?|2\.|seconde|deuxieme|2e|2eme|segunda|2a|δευτερο[συ]|β'?)"
@@ -50,9 +52,15 @@ WARS = {  # by which readers name years
     r"franco-prussian war|deutsch-franzosische[nrs]? krieg(?:e?s)?|guerre franco-(?:prussienne|allemande)": (1870, 1871),
     r"guerra civil(?: espanola)?|spanish civil war": (1936, 1939), r"guerra de (?:la )?independencia": (1808, 1814)}
 NUMBER = rf"(?:[0-9]{{1,2}}|[ivx]+|{'|'.join(CENTURIES)})"
-NTH = r"(?:\s?(?:st|nd|rd|th|eme|ere?|er|e|[oº]|οσ|ου|ο|ων|ουσ)\b|\.?º)?\.?"
+NTH = r"(?:\s?(?:st|nd|rd|th|eme|ere?|er|e|de|[oº]|οσ|ου|ο|ων|ουσ)\b|\.?º)?\.?"
 CENTURY = (r"(?:centur(?:y|ies)\b|cents?\b\.?|jahrhundert(?:e[ns]?|s)?\b|jhd?ts?\b\.?|jhs?\b\.?|jahrh\b\.?|siecles?\b|"
-           r"siglos?\b|αιωνα[σ]?\b|αιωνοσ\b|αιωνεσ\b|αιωνων\b|αι\b\.?)")
+           r"siglos?\b|αιωνα[σ]?\b|αιωνοσ\b|αιωνεσ\b|αιωνων\b|αι\b\.?|век(?:а|ов|е)?\b|wiek(?:u|ow)?\b|stol(?:eti)?\b\.?|"
+           r"eeuw\b|secol[oi]\b|seculos?\b)")
+REIGNS = {  # the year before the first one of those by which Japan and China count
+    "明治": 1867, "大正": 1911, "昭和": 1925, "平成": 1988, "慶応": 1864, "民[国國]": 1911, "宣[统統]": 1908, "光[绪緒]": 1874, "同治": 1861,
+    "咸[丰豐]": 1850, "道光": 1820, "嘉[庆慶]": 1795, "乾隆": 1735, "雍正": 1722, "康熙": 1661}
+HAN = "元一二三四五六七八九"
+HEBREW = dict(zip("אבגדהוזחטיכלמנסעפצקרשתךםןףץ", (*range(1, 10), *range(10, 100, 10), 100, 200, 300, 400, 20, 40, 50, 80, 90)))
 ITEM = re.compile(
     rf"(?<![\w.])(?P<lead>{NUMBER}){NTH}(?={TO}(?:(?:{PART_WORDS}){OF})?{NUMBER}{NTH}[\s-]{{0,3}}(?:{CENTURY}|[cs]\b))"
     rf"|(?<![\w.])(?P<one>{NUMBER}){NTH}(?:{TO}(?P<other>{NUMBER}){NTH})?[\s-]{{0,3}}{CENTURY}"
@@ -66,15 +74,19 @@ ITEM = re.compile(
     r"|(?P<turn>jahrhundertwende|turn of the century|fin de siecle|tournant du siecle|cambio de siglo)"
     r"|(?<![0-9])(?P<day>[0-9]{4})-[0-9]{2}-[0-9]{2}(?![0-9])"
     r"|(?<![0-9])(?P<begin>[0-9]{4})\s?[-\u2010-\u2015/]\s?(?P<end>[0-9]{1,2})(?![0-9.]*[0-9])"
+    rf"|(?P<reign>{'|'.join(REIGNS)})(?P<regnal>[0-9]{{1,2}}|[{HAN}十]{{1,3}})"
+    r"|(?<![0-9])(?P<hijri>1?[0-9]{3})\s?(?:هـ|ه\b|هجري|a\. ?h\.)"
+    r"|(?<!\w)ה?(?P<hebrew>ת[קרש]?[א-ת]{0,2}[\"״”][א-ת])(?!\w)"
+    r"|(?<![\w.])(?P<roman_age>[ivx]{2,5})(?:\s?[-\u2013]\s?(?P<until>[ivx]{2,5}))?\s?(?:ww?|вв?|ст|sec)\b\.?"
     r"|(?<![0-9])(?P<year>[0-9]{4})(?![0-9])"
     r"|(?<!\w)(?P<roman>m[mdclxvi]{3,})(?!\w)"
     r"|(?<!\w)an (?P<republic>[ivx]+)(?!\w)"
     rf"|(?<!\w)(?P<war>{'|'.join(WARS)})(?!\w)")
-CENTURY_GROUPS = ("lead", "one", "short", "after", "era", "age")
+CENTURY_GROUPS = ("lead", "one", "short", "after", "era", "age", "roman_age")
 ONLY_IN_DATES = ("some", "era", "age")
 PART = re.compile(rf"(?<!\w)(?:(?P<part>{PART_WORDS})"
                   rf"|(?P<nth>{'|'.join('|'.join(words.split()) for words in ORDINALS[1:])}|{LAST})\.?\s{{0,3}}"
-                  rf"(?P<piece>{'|'.join('|'.join(words.split()) for words in PIECES.values())})){OF}\Z")
+                  rf"(?P<piece>{'|'.join('|'.join(words.split()) for words in PIECES.values())})\.?){OF}\Z")
 ABOUT = re.compile(r"(?:(?<!\w)(?:ca?\.?|cca\.?|circa|um|etwa|ungefahr|gegen|wohl|vermutlich|vers|env\.?|environ|autour de|"
                    r"hacia|h\.|alrededor de|aprox\.?|aproximadamente|sobre|περιπου|γυρω στ[οα]|π\.|about|around|approx\.?|"
                    r"approximately|probably|possibly)|~)(?:\s{1,3}(?:the|das|le|el|το))?\s{0,3}\Z")
@@ -171,6 +183,12 @@ def years_of_item(item):
         return 1890, 1910
     if name == "war":
         return next(years for words, years in WARS.items() if re.fullmatch(words, text))
+    if name == "reign":
+        before = next(year for words, year in REIGNS.items() if re.fullmatch(words, text))
+        return (before + regnal(named["regnal"]),) * 2
+    if name in ("hijri", "hebrew"):  # each begins within one of ours
+        year = int(int(text) * .970224 + 621.57) if name == "hijri" else sum(HEBREW.get(letter, 0) for letter in text) + 1239
+        return year, year + 1
     if name == "republic":
         number = number_of(text)
         return (1791 + number, 1792 + number) if 0 < number < 15 else None
@@ -186,6 +204,14 @@ def number_of(text):
         return next((number for word, number in CENTURIES.items() if re.fullmatch(word, text)), 0)
     values = [VALUES[letter] for letter in text]
     return sum(-value if value < after else value for value, after in zip(values, [*values[1:], 0]))
+
+
+def regnal(text):
+    """The number of a year of a reign, also in Chinese digits."""
+    if text.isdecimal():
+        return int(text)
+    tens, is_ten, ones = text.rpartition("十")
+    return bool(is_ten) * 10 * max(1, HAN.find(tens)) + bool(ones) * max(1, HAN.find(ones))
 
 
 def with_part(plain, at, begin, years):
