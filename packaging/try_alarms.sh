@@ -264,7 +264,7 @@ disks() {
 # What else may break. Each is red in its line, and nothing that follows from it is told.
 parts() {
     local part site=/etc/nginx/sites-available/record-office staff=/etc/record-office/staff unit=record-office-backup
-    for part in queue readers desk try; do
+    for part in queue readers desk try my; do
         fault $part "without record-office-$part" "systemctl stop record-office-$part" "systemctl start record-office-$part"
         loop $part
     done
