@@ -20,9 +20,9 @@ from acceptance.scenarios import commands, text_of
 
 LISTS = client.TOP / "packaging" / "lists"
 SETTINGS = client.SETTINGS | {"seats": "12", "daily": "12", "hands": "2", "run": "20"}
-WITH_NAMES = {"permits", "waiting", "readers", "long-waiting", "visits", "handed"}
+WITH_NAMES = {"permits", "waiting", "readers", "long-waiting", "visits", "handed", "cancelled"}
 MOST_SHOWN = 1000  # rows of a page
-TAKEN_IN = 22  # lines of the log, by the register
+TAKEN_IN = 26  # lines of the log, by the register
 NAMES = ("Ann", "Ben", "Cid")  # of readers, whatever stands around them
 OWN = f"""-- list: long
 -- title: Long
@@ -115,7 +115,7 @@ def old_folder(program, module_room):
     office = client.Office.create(program, module_room / "old.db", SETTINGS)
     folder, files = module_room / "old", module_room / "files"
     play(office, "old")
-    take_in_log(module_room / "register.db")
+    take_in_log(module_room / "register.db", office.store)
     folder.mkdir()
     files.mkdir()
     for source in "abc":
@@ -125,16 +125,17 @@ def old_folder(program, module_room):
     return folder
 
 
-def take_in_log(register):
+def take_in_log(register, copy):
     """The register takes in each line of the log once, and no line that is of no command that was done."""
     lines = [json.dumps({"id": f"{number:032x}", "at": f"{1709000000 + number}.5", "time": f"{time}:00+00:00", "staff": staff,
-                         "path": f"/desk/{command}", "asked": asked, "status": status})
+                         "path": f"/{'' if '/' in command else 'desk/'}{command}", "asked": asked, "status": status})
              for number, (time, command, asked, status, staff) in enumerate(
                  line.split(" | ") for line in GIVEN["log"].splitlines())]
     wrong = [lines[0].replace(f"{0:032x}", "0"), lines[0][:50], "", "no JSON", "[]"]
     said = "\n".join([*lines, *wrong]).encode()
     for wanted in (f"{TAKEN_IN} new\n", "0 new\n"):
-        ended = subprocess.run([LISTS / "record-office-register", register], input=said, capture_output=True, check=True)
+        ended = subprocess.run([LISTS / "record-office-register", register, "--copy", copy], input=said, capture_output=True,
+                               check=True)
         assert ended.stdout.decode() == wanted
 
 

@@ -65,7 +65,8 @@ def place(tmp_path: Path) -> Any:
         told=lambda name: tmp_path / f"run/told-record-office.service-{name}", name=None,
         unit="record-office.service", unit_of=lambda part: f"record-office-{part}.service", as_owner=as_owner,
         make_folder=lambda path: path.mkdir(exist_ok=True), register=tmp_path / "office/register.db", files=tmp_path / "files",
-        owner=SimpleNamespace(pw_uid=os.getuid(), pw_gid=os.getgid(), pw_name="root"), check=lambda path: None)
+        my=tmp_path / "my", owner=SimpleNamespace(pw_uid=os.getuid(), pw_gid=os.getgid(), pw_name="root"),
+        check=lambda path: None)
 
 
 def copy_of(place: Any, day: datetime.date, hours: float = 0) -> Path:
@@ -610,7 +611,7 @@ def test_the_package_has_each_file_that_its_programs_read(package: Path) -> None
     has = {str(path.relative_to(package)) for path in package.rglob("*")}
     share = "usr/share/record-office"
     wanted = {f"{share}/{'front/' if part in ('public', 'desk', 'shared') else ''}{path.relative_to(client.TOP / 'front')}"
-              for part in ("public", "desk", "shared", "look", "try", "readers")
+              for part in ("public", "desk", "shared", "look", "my", "try", "readers")
               for path in (client.TOP / "front" / part).rglob("*") if path.is_file() and path.suffix != ".pyc"}
     wanted -= {f"{share}/readers/office.json"}
     wanted |= {f"{share}/own/office.json", f"{share}/lists/lists.sql", "usr/bin/record_office", "usr/bin/record-office-lists"}

@@ -46,7 +46,7 @@ def play(program: client.Program, test: str, fault: Record | None, ports: int) -
     """Plays a test over a copy of the front. What failed; nothing if it passed."""
     with tempfile.TemporaryDirectory(dir=client.usual_room()) as room:
         copy_of_front(Path(room, "front"), fault)
-        modules = f"pythonpath=. {room}/front/readers {room}/front/look"
+        modules = f"pythonpath=. {room}/front/readers {room}/front/look {room}/front/my"
         return trials.run_test(test, program.path, LONGEST, "-o", modules, FRONT_FILES=f"{room}/front", FRONT_PORTS=str(ports))
 
 

@@ -283,7 +283,7 @@ parts() {
     local part unit=record-office-backup staff=/etc/record-office/staff index=/var/cache/private/record-office-readers
     local site=/etc/nginx/sites-available/record-office own=/usr/share/record-office/own share=/usr/share/record-office/server
     local open=/etc/nginx/sites-enabled/record-office load='systemctl reload nginx; sleep 1' hash="\\\$6\\\$a\\\$b"
-    for part in queue readers desk try; do
+    for part in queue readers desk try my; do
         fault $part "without record-office-$part" "systemctl stop record-office-$part" "systemctl start record-office-$part"
         fault $part "one that hangs" "systemctl kill -s STOP record-office-$part" "systemctl kill -s CONT record-office-$part"
         loop $part

@@ -8,10 +8,10 @@ copies=/var/backups/record-office
 today=$(date +%F)
 readers=http://127.0.0.1:8080
 desk=http://127.0.0.1:8081
-units=(record-office record-office-queue record-office-readers record-office-desk record-office-try)
+units=(record-office record-office-queue record-office-readers record-office-desk record-office-try record-office-my)
 timers=(record-office-backup.timer record-office-probe.timer record-office-status.timer)
 harbour=http://127.0.0.1:8180
-harbour_units=(record-office@harbour record-office-queue@harbour record-office-readers@harbour record-office-desk@harbour record-office-try@harbour)
+harbour_units=(record-office@harbour record-office-queue@harbour record-office-readers@harbour record-office-desk@harbour record-office-try@harbour record-office-my@harbour)
 harbour_timers=(record-office-backup@harbour.timer record-office-probe@harbour.timer record-office-status@harbour.timer)
 
 . "$(dirname "$0")/try_checks.sh"
@@ -28,8 +28,8 @@ before() {
         systemctl is-system-running 2>/dev/null | grep -q 'running\|degraded' && break
         sleep 1
     done
-    same 'without an office no unit runs' "$(systemctl is-active "${units[@]}" | sort | uniq -c | xargs)" '5 inactive'
-    same 'all are enabled' "$(systemctl is-enabled "${units[@]}" "${timers[@]}" | sort | uniq -c | xargs)" '8 enabled'
+    same 'without an office no unit runs' "$(systemctl is-active "${units[@]}" | sort | uniq -c | xargs)" '6 inactive'
+    same 'all are enabled' "$(systemctl is-enabled "${units[@]}" "${timers[@]}" | sort | uniq -c | xargs)" '9 enabled'
     # shellcheck disable=SC2016  # the shell that is called expands it
     is 'systemd finds nothing wrong with the units' sh -c \
         'test -z "$(cd /lib/systemd/system && systemd-analyze verify --man=no record-office*[!@].service record-office*[!@].timer record-office-alarm@x.service 2>&1 | tee /dev/stderr)"'
@@ -98,7 +98,7 @@ staff() {
 # The second office, which the lines of OPERATING added.
 second() {
     local before settings=/etc/record-office/harbour second_copies=/var/backups/record-office-harbour
-    same 'the units of the second office run' "$(systemctl is-active "${harbour_units[@]}" "${harbour_timers[@]}" | sort | uniq -c | xargs)" '8 active'
+    same 'the units of the second office run' "$(systemctl is-active "${harbour_units[@]}" "${harbour_timers[@]}" | sort | uniq -c | xargs)" '9 active'
     # shellcheck disable=SC2016  # the shell that is called expands it
     is 'systemd finds nothing wrong with them' sh -c 'test -z "$(systemd-analyze verify --man=no record-office@harbour.service \
         record-office-queue@harbour.service record-office-readers@harbour.service record-office-backup@harbour.timer record-office-probe@harbour.timer \
@@ -230,7 +230,7 @@ upgrades() {
     same 'after that too' "$(status $readers/public/fonds)" 200
 
     is 'removal' dpkg --remove record-office
-    same 'nothing runs any more' "$(systemctl is-active "${units[@]}" "${timers[@]}" "${harbour_units[@]}" "${harbour_timers[@]}" | sort | uniq -c | xargs)" '16 inactive'
+    same 'nothing runs any more' "$(systemctl is-active "${units[@]}" "${timers[@]}" "${harbour_units[@]}" "${harbour_timers[@]}" | sort | uniq -c | xargs)" '18 inactive'
     is 'nginx goes on' nginx -t -q
     same 'nothing answers readers' "$(status $readers/public/fonds) $(status $harbour/public/fonds)" '000 000'
     is 'installed again' sh -c 'dpkg -i /root/next.deb </dev/null'

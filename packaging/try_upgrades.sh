@@ -13,7 +13,7 @@ old=${4:-$room/old}
 "$here/old_packages.sh" "$program" "$old"
 mkdir "$room/one"
 tree "$room/one/tree"
-root_with ,adduser,python3,sqlite3,haproxy,nftables,nginx,openssl,procps,python3-babel,python3-jinja2,python3-snowballstemmer,python3-waitress
+root_with ,adduser,python3,sqlite3,haproxy,nftables,nginx,openssl,procps,python3-babel,python3-jinja2,python3-segno,python3-snowballstemmer,python3-waitress
 cp "$(build "$room/one/tree")" "$root/root/new.deb"
 dpkg-deb -R "$root/root/new.deb" "$room/broken"
 echo 'nonsense;' >>"$room/broken/usr/share/record-office/server/common.conf"

@@ -7,9 +7,9 @@ IFS=- read -r version offices files site <<<"$1"
 . "$(dirname "$0")/try_checks.sh"
 sites=/etc/nginx/sites-available
 share=/usr/share/record-office
-parts=(record-office record-office-queue record-office-readers record-office-desk record-office-try)
+parts=(record-office record-office-queue record-office-readers record-office-desk record-office-try record-office-my)
 timers=(record-office-backup record-office-probe record-office-status)
-old_parts=("${parts[@]}") old_timers=("${timers[@]}")
+old_parts=("${parts[@]:0:5}") old_timers=("${timers[@]}")
 if [ "$version" = 87a45c06 ]; then old_parts=(record-office record-office-queue record-office-search) old_timers=(record-office-backup); fi
 ports=(8080 8081)
 [ "$files-$site" != edited-plain ] || ports=(8070 8071)

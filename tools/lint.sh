@@ -23,9 +23,9 @@ mapfile -t shell < <(grep -rlE --exclude-dir={crates,.git,out,record-office} '^#
 finds . flake8 . packaging/tools/record-office-* packaging/lists/record-office-{lists,register}
 finds . mypy
 # What is installed from a folder finds its modules there; trying an import also finds those of the look at a file.
-for folder in front/readers front/look front/try packaging/tools packaging/lists; do
+for folder in front/readers front/look front/try front/my packaging/tools packaging/lists; do
     mapfile -t files < <(cd $folder && grep -lE '^#!/usr/bin/python3|^"""' ./*.py ./record-office-* 2>/dev/null)
-    MYPYPATH=$PWD/front/look finds $folder mypy --config-file "$PWD/pyproject.toml" --scripts-are-modules "${files[@]#./}"
+    MYPYPATH=$PWD/front/look:$PWD/front/readers finds $folder mypy --config-file "$PWD/pyproject.toml" --scripts-are-modules "${files[@]#./}"
 done
 finds . eslint --format unix front acceptance
 finds . shellcheck "${shell[@]}"

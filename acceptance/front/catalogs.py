@@ -93,7 +93,7 @@ def texts_in(table):
 def texts_of_pages():
     """All texts of the pages: a catalog without translations."""
     found = Catalog(charset="utf-8")
-    for path in sorted((FRONT / "readers").glob("*.py")):
+    for path in sorted([*FRONT.glob("readers/*.py"), *FRONT.glob("my/*.py")]):
         texts = extract("python", io.BytesIO(path.read_bytes()), {"N_": None})
         add(found, path, ((text, None) for _, text, _, _ in texts))
     for path in sorted((FRONT / "readers/templates").iterdir()):

@@ -21,7 +21,7 @@ from acceptance.front.office import FRONT, SIGNED_IN, TOP, Office
 SERVERS = ("nginx", "haproxy", "openssl", "readers")
 APPROVED = TOP / "acceptance/front/approved"
 SHOWN = 12  # lines of a difference
-sys.path[:0] = [str(FRONT / "readers"), str(FRONT / "look")]  # which may be those of a copy: FRONT_FILES
+sys.path[:0] = [str(FRONT / name) for name in ("readers", "look", "my")]  # which may be those of a copy: FRONT_FILES
 
 
 def pytest_configure(config: pytest.Config) -> None:

@@ -107,6 +107,7 @@ class Office(client.Office):
         self.serving: Any = None  # the program's process, once there is one; the same of the readers' service, and of tries
         self.service: Any = None
         self.trying: Any = None
+        self.showing: Any = None  # My orders
         self.copies, self.kept = self.folder / "copies", self.folder / "kept"  # of tries
         self.queue = self.folder / "readers.sock"
         self.index, self.words = self.folder / "index.db", READERS / "office.json"
@@ -199,6 +200,8 @@ class Office(client.Office):
             self.kill_readers()
         if self.trying:
             self.kill_tries()
+        if self.showing:
+            self.kill_my()
         for process in self.processes:
             process.terminate()
         if self.serving:
@@ -258,6 +261,23 @@ class Office(client.Office):
             self.trying = subprocess.Popen([str(word) for word in words], stdout=log, stderr=log,
                                            env={**os.environ, "PYTHONPATH": str(FRONT / "look")})  # as its unit has it
         self.wait_for_socket(place, self.trying)
+
+    def serve_my(self, *more: str) -> None:
+        """Begins the service of My orders; more: further words of its command line. Returns once it listens."""
+        place = self.folder / "mine"
+        (self.folder / "my.state").mkdir(exist_ok=True)
+        with open(self.folder / "my.told", "a") as log:
+            words = [PYTHON, "-B", "-s", FRONT / "my/my_orders.py", "--queue", self.folder / "my/queue.sock", "--state",
+                     self.folder / "my.state", "--listen", place, "--words", self.words, "--orders", "6000", *more]
+            self.showing = subprocess.Popen([str(word) for word in words], stdout=log, stderr=log,
+                                            env={**os.environ, "PYTHONPATH": str(READERS)})  # as its unit has it
+        for name in ("my", "cards"):
+            self.wait_for_socket(place / f"{name}.sock", self.showing)
+
+    def kill_my(self) -> None:
+        self.showing.kill()
+        self.showing.wait()
+        self.showing = None
 
     @contextlib.contextmanager
     def without_tries(self) -> Iterator[None]:
@@ -394,7 +414,8 @@ class Office(client.Office):
         for path in self.sources:
             name = "office.conf" if path.name == "nginx.conf" else path.name
             (self.folder / name).write_bytes(self.adapt(path.read_bytes().decode()).encode())
-        (self.folder / "desk").mkdir(exist_ok=True)
+        for name in ("desk", "my", "mine"):
+            (self.folder / name).mkdir(exist_ok=True)
         (self.folder / "main.conf").write_text(NGINX.format(user=user_name(), mime=mime_types()))
         digest = base64.b64encode(hashlib.sha1(PASSWORD[1].encode()).digest()).decode()
         lines = [f"{PASSWORD[0]}:{{SHA}}{digest}", *(f"{name}:{{SHA}}{digest}:part={part}" for name, part in PARTS.items())]
@@ -411,6 +432,7 @@ class Office(client.Office):
         for theirs, our in (("/usr/share/record-office/front", FRONT), ("/etc/record-office", self.folder),
                             ("/run/record-office-queue", self.folder),
                             ("/run/record-office-try/try", self.folder / "tries"),
+                            ("/run/record-office-my", self.folder / "mine"),
                             ("/var/log/nginx/record-office", self.folder / "log"),
                             ("/run/record-office-readers", self.folder),
                             ("/var/cache/record-office", self.folder / "cache"),

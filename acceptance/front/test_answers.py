@@ -40,7 +40,7 @@ UNTOLD = {"date", "connection", "content-length", "transfer-encoding", "etag", "
 # What every request has that comes to one of those behind.
 READERS_SERVICE = ["host: SITE", "x-forwarded-proto: http", "x-forwarded-for: READER", "record-office-room: 0",
                    "record-office-since: NOW"]  # and its own name where it has one
-USUAL = {"program": ["host: office"], "trials": ["host: office"], **dict.fromkeys(KINDS, READERS_SERVICE)}
+USUAL = {**dict.fromkeys(("program", "trials", "cards"), ["host: office"]), **dict.fromkeys((*KINDS, "my"), READERS_SERVICE)}
 
 
 class Echo(StandIn):
@@ -99,6 +99,7 @@ class Front(Office):
             (self.folder / name).parent.mkdir(parents=True, exist_ok=True)
             (self.folder / name).write_text("caf\u00e9\n", "utf-8")
         self.behind = [Echo("program", self.ports["8090"]), Echo("trials", self.folder / "tries.sock"),
+                       *(Echo(kind, self.folder / f"mine/{kind}.sock") for kind in ("my", "cards")),
                        *(Echo(kind, self.folder / f"{kind}.sock") for kind in KINDS)]
         self._begin_queue()
         self.nginx = [self._run("nginx", "-p", str(self.folder), "-c", str(path), told=path.stem) for path in self.sites()]
@@ -292,6 +293,7 @@ READERS_PATHS = """
 /public/units/01 /public/units/12345678901 /public/units/1/2 /public/aid/1 /public/aid/0 /public/orders /public/none
 /de /de/unit/1 /de/unit/1/order /de/aid/1 /de/search?q=x /gsw/help /german/help
 /sitemap.xml /sitemap/1.xml /a-z /de/a-z /unit/1/dates
+/my /my/ /my/1-a /de/my /de/my/1-a /my/order /my/cancel /my/a/b /%6dy/1-a /x/../my/1-a /mY /mys
 /desk/issued /try/differences/x /lists/a.html /texts/de.json /often.html /away.html /not-from-here.html /quietly/away.html
 /.well-known/x /index.html /a%2fb /%zz /public/../desk/x //public/fonds /Public/fonds /public/fonds%0a /caf%C3%A9
 """.split()
@@ -301,13 +303,15 @@ DESK_PATHS = """
 /desk/days /desk/import/x /desk/import/x/y /public/fonds /public/units/1 /public/orders /public/aid/1/2/3 /try/differences/x
 /try/imported/x /try/look /try/look/x /try/other/x /try/differences/x/y
 /lists/a.csv /lists/a.html /lists/a.json /lists/a.txt /lists/none.csv
-/texts/de.json /texts/xx.json /often.html /desk/issued%0a /signed-in.json
+/texts/de.json /texts/xx.json /often.html /desk/issued%0a /signed-in.json /my/1 /my/01 /my/1-a /my/ready /ready /desk/cancel
 """.split()
 METHODS = ("GET", "POST", "HEAD", "PUT", "OPTIONS")
 EVERY_METHOD = set("/ /unit/1 /unit/1/order /aid/1 /search?q=x /public.css /public/fonds /public/orders /public/aid/1 "
-                   "/shared/dom.js /desk/issued /desk/seat /desk/import/x /try/imported/x /lists/a.csv".split())
-COMMANDS = {"readers": ("/public/orders", "/unit/1/order", "/ordered/order"),
-            "desk": ("/desk/run", "/desk/seat", "/desk/import/x", "/public/orders", "/try/differences/x", "/try/imported/x")}
+                   "/shared/dom.js /desk/issued /desk/seat /desk/import/x /try/imported/x /lists/a.csv "
+                   "/my /my/1-a /my/order /my/1".split())
+COMMANDS = {"readers": ("/public/orders", "/unit/1/order", "/ordered/order", "/my/cancel", "/my/order"),
+            "desk": ("/my/1", "/desk/run", "/desk/seat", "/desk/import/x", "/public/orders", "/try/differences/x",
+                     "/try/imported/x")}
 
 
 def test_each_path_with_each_method(table, approved):

@@ -59,7 +59,7 @@ def test_each_part_of_the_staff_reaches_what_is_its_own_and_nothing_else(front, 
     may = part in RANKS[RANKS.index(least):]
     for path in (one for path in paths for one in written(path)):
         got, body, came = ask(front, STAFF[part], path)
-        behind = path.startswith(("/desk/", "/try/", "/public/"))
+        behind = path.startswith(("/desk/", "/try/", "/public/", "/my/"))
         if may:
             assert came == behind and got in ((401,) if path == "/sign-out" else (200,) if behind else (200, 204)), (path, got)
         else:

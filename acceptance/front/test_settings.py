@@ -60,7 +60,7 @@ def test_who_asks_gives_up_after_who_is_asked():
 def test_there_is_room_for_a_connection_to_the_gate_for_each_request():
     every, *ways, gates = [int(one) for one in re.findall(r"maxconn (\d+)", re.sub(r"server .*", "", TEXTS["haproxy.cfg"]))]
     assert gates >= sum(ways) and every >= sum(ways) + gates
-    assert len(ways) == 3 and ways[0] >= 100, "readers of many addresses fill no way but theirs"
+    assert len(ways) == 4 and ways[0] >= 100, "readers of many addresses fill no way but theirs"
 
 
 def test_queue_and_desk_are_reached_from_this_machine_alone():

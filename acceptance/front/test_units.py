@@ -22,6 +22,7 @@ OPEN = {
     "record-office-readers": {"RestrictAddressFamilies_AF_UNIX", "IPAddressDeny"},
     "record-office-try": {"RestrictAddressFamilies_AF_UNIX", "IPAddressDeny", "SystemCallFilter_resources", "ProcSubset",
                           "PrivateUsers"},
+    "record-office-my": {"RestrictAddressFamilies_AF_UNIX", "IPAddressDeny", "PrivateUsers"},  # its folder's user
     "record-office-desk": {"PrivateNetwork", "RestrictAddressFamilies_AF_INET_INET6", "RestrictAddressFamilies_AF_UNIX",
                            "IPAddressDeny", "PrivateUsers", "ProcSubset", "MemoryDenyWriteExecute", "UserOrDynamicUser",
                            "SystemCallFilter_privileged", "SystemCallFilter_resources",
@@ -55,6 +56,7 @@ def read(path):
 SERVICES = {path.stem: read(path) for path in sorted(UNITS.glob("*.service"))}
 TIMERS = {path.name: read(path) for path in UNITS.glob("*.timer")}
 SERVER = {path.name: path.read_text("utf-8") for path in (FRONT / "server").iterdir()}
+SOCKETS = re.findall(r"bind unix@(\S+)", SERVER["haproxy.cfg"])  # of the readers' service, and of My orders
 
 
 @pytest.mark.parametrize("unit, name, values", directives())
@@ -87,10 +89,16 @@ def test_somebody_is_told_that_a_service_failed(unit):
 
 def test_folders_that_the_configurations_name_are_those_of_units():
     named = set(re.findall(r"/run/record-office-([a-z]+)/", "\n".join(SERVER.values())))
-    assert named == {"queue", "readers", "try", "desk"}  # see the table
+    assert named == {"queue", "readers", "try", "my", "desk"}  # see the table
     group = re.findall(r"readers\.sock mode 660 group (\S+)", SERVER["haproxy.cfg"])
     for unit in ("record-office-queue", "record-office-readers"):
         assert SERVICES[unit].get("Group") == group, f"{unit} shares the socket"
+
+
+def test_what_my_orders_needs_of_the_queue():
+    begin = " ".join(SERVICES["record-office-my"]["ExecStart"])
+    assert f" --queue {SOCKETS[1]} " in begin
+    assert " --messages=${READY_COMMAND}" in begin and " --words ${RUNTIME_DIRECTORY}/office.json " in begin
 
 
 def test_the_desk_has_two_files_for_each_connection():
@@ -122,7 +130,8 @@ def test_what_tells_why_the_program_ended_is_there():
 
 
 @pytest.mark.parametrize("unit, upstream, alone", [
-    *(("readers", kind, " -E") for kind in KINDS), ("try", "try", "")])  # the latter is told where its modules are
+    *(("readers", kind, " -E") for kind in KINDS),
+    ("try", "try", ""), ("my", "my", ""), ("my", "cards", "")])  # these are told where their modules are
 def test_services_of_python_listen_where_nginx_asks(unit, upstream, alone):
     begin = " ".join(SERVICES[f"record-office-{unit}"]["ExecStart"])
     begin = begin.replace("${RUNTIME_DIRECTORY}", f"/run/record-office-{unit}")

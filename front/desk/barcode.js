@@ -28,6 +28,18 @@ export function barcode(code) {
   svg.setAttribute('viewBox', `0 0 ${place + 9} 40`);
   svg.setAttribute('width', `${(place + 9) * 0.3}mm`);
   svg.append(node('path', { d: bars }));
+  return figureOf(svg, code);
+}
+
+/** The code of an address, by the path of its dark squares. */
+export function addressCode({ address, size, path }) {
+  const edge = 4; // as many squares are free around it
+  const svg = node('svg', { class: 'address-code', role: 'img', 'aria-label': text('Code of the address'), viewBox: `${-edge} ${-edge} ${size + 2 * edge} ${size + 2 * edge}` });
+  svg.append(node('path', { d: path }));
+  return figureOf(svg, address);
+}
+
+function figureOf(svg, code) {
   const figure = document.createElement('figure');
   figure.className = 'coded';
   const words = document.createElement('figcaption');

@@ -7,6 +7,7 @@ import { phrase, text, textAs } from '../shared/language.js';
 import * as routes from '../shared/routes.js';
 import { askIfPast } from './days.js';
 import { lookAtPermits, lookAtReader } from './looks.js';
+import { myOrdersCard } from './my_orders.js';
 import { boxLink, readCard } from './names.js';
 import { orderedBoxField } from './ordered_box.js';
 import { card, heldContainer, notDone, problem, rowForm, said, unitLink } from './parts.js';
@@ -21,13 +22,14 @@ export async function cardPage(ticket) {
   const view = {
     ticket, name: el('p', { class: 'big-name' }), head: el('div', { class: 'reader' }), told: el('div', { role: 'status' }),
   };
-  const isThere = await show(view);
+  const [isThere, own] = await Promise.all([show(view), routes.ownAddress(ticket)]);
   return { title: text('Ticket {ticket}', { ticket }), content: [
     el('h1', {}, text('Ticket {ticket}', { ticket })), view.name, view.told, view.head,
     isThere ? el('div', { class: 'cards four' },
       card(text('Seat'), seatForm(view), leaveForm(view)),
       card(text('Order a container'), orderForm(view)),
       card(text('Renew'), renewForm(view)),
+      own.ok && myOrdersCard(ticket, own.value),
       may('archivist') && card(text('Give a permit'), el('p', { class: 'quiet' }, PERMIT), permitForm(view)))
       : el('p', {}, link('#/readers', text('Find a reader'))),
   ] };

@@ -3,10 +3,11 @@
 import { askEach } from '../shared/asking.js';
 import { el, link, printButton, words } from '../shared/dom.js';
 import { phrase, text } from '../shared/language.js';
-import { queue, reader, slip } from '../shared/routes.js';
+import { ownAddress, queue, reader, slip } from '../shared/routes.js';
 import { locationIn, readRun } from '../shared/texts.js';
 import { barcode } from './barcode.js';
 import { codeList, findCodes } from './codes.js';
+import { addressParts } from './my_orders.js';
 import { readerWords } from './names.js';
 import { problem } from './parts.js';
 import { boxCode, ticketCode } from './scans.js';
@@ -53,9 +54,11 @@ export async function ticketPage(ticket) {
   const title = text('Ticket {ticket}', { ticket });
   if (!answer.ok) return failed(title, answer);
   const { name, until } = answer.value;
+  const own = await ownAddress(ticket);
   return toPrint(title, text('Print the ticket'), link(`#/readers/${ticket}`, text('Back to the card')), [
     el('p', {}, phrase('Reader’s ticket {ticket}', { ticket: el('strong', {}, ticket) })), words(name, 'p', { class: 'what' }),
-    el('p', { class: 'quiet' }, phrase('Good until {until}', { until })), barcode(ticketCode(ticket))]);
+    el('p', { class: 'quiet' }, phrase('Good until {until}', { until })), barcode(ticketCode(ticket)),
+    own.ok && el('p', {}, text('Your orders, and new ones:')), own.ok && addressParts(own.value)]);
 }
 
 export async function labelPage(container) {

@@ -196,6 +196,9 @@ for (const place of store ? all('[data-collect]') : []) {
   for (const more of all('[data-keep]')) offer(more, ordered);
 }
 
+const done = new Map(all('[data-done]').map(({ dataset, textContent }) => [dataset.done, { order: dataset.number, told: textContent }]));
+if (done.size) keep(kept().map((entry) => ({ ...entry, ...done.get(keyOf(entry)) }))); // what My orders has ordered
+
 for (const form of all('[data-list]')) {
   const texts = JSON.parse(form.dataset.texts);
   if (!store) one('[data-none]', form).textContent = texts.refused;

@@ -202,10 +202,15 @@ def spool(path, question, folder, soon, patience):
 
 
 def give_order(path, ticket, container, patience):
-    """Gives an order, once: the status and the members of the answer. Status 0: nobody knows whether it was taken."""
-    connection = Connection(path, patience)  # a kept one may have been closed, and an order is not sent twice
+    """Gives an order, as `command` gives any."""
+    return command(path, "/public/orders", {"ticket": ticket, "container": container}, patience)
+
+
+def command(path, route, members, patience):
+    """Gives a command, once: the status and the members of the answer. Status 0: nobody knows whether it was done."""
+    connection = Connection(path, patience)  # a kept one may have been closed, and a command is not sent twice
     try:
-        connection.request("POST", "/public/orders", json.dumps({"ticket": ticket, "container": container}))
+        connection.request("POST", route, json.dumps(members))
         answer = connection.getresponse()
         body = json.loads(answer.read() or b"{}")
         return (answer.status, body) if answer.status != 503 or body.get("error") == "not reached" else (0, {})

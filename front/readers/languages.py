@@ -79,8 +79,8 @@ def read(path):
 
 
 def load(folder=HERE / "po"):
-    """All languages by their codes, English first. nginx takes no other code for one."""
-    paths = sorted((path for path in folder.glob("*.po") if re.fullmatch("[a-z]{2,3}", path.stem)),
+    """All languages by their codes, English first. nginx takes no other code for one; `my` is My orders."""
+    paths = sorted((path for path in folder.glob("*.po") if re.fullmatch("(?!my$)[a-z]{2,3}", path.stem)),
                    key=lambda path: (path.stem != "en", path.stem))
     return {path.stem: Language(path.stem, read(path)) for path in paths}
 

@@ -11,7 +11,7 @@ from markupsafe import Markup, escape
 
 from aids import mark
 from asking import Asking
-from languages import HERE, Language
+from languages import HERE, Language, choose
 from texts import AREAS, DATES, ELEMENTS, EXTENT, N_, read_head, value_of
 
 SHORT = 48  # characters of a title where it only says where something stands
@@ -22,7 +22,8 @@ WORDS = {"name": N_("Record office"), "address": "", "hours": "", "site": "",
 class Request(NamedTuple):
     """method, path and args of what came; at: `/de` if the address began with a language, which path does not; language; site:
     the address of the readers' site as it was asked for; named: the same as nginx has it in its configuration, or nothing;
-    address: of the reader; ask: asks the office; form: what was sent, in pairs."""
+    address: of the reader; ask: asks the office; form: what was sent, in pairs; ticket: with which this browser orders; by:
+    `card` if orders need that; secret: what My orders is shown by."""
 
     method: str
     at: str
@@ -34,24 +35,28 @@ class Request(NamedTuple):
     address: str
     ask: Asking
     form: list
+    ticket: str = ""
+    by: str = ""
+    secret: str = ""
 
 
 class Answer(NamedTuple):
     """status; body: a text, or pieces of one; kind of text; size: how many bytes, where the pieces are not counted; allow:
-    which methods a page has."""
+    which methods a page has; cookie: what a browser is to keep."""
 
     status: int
     body: object
     kind: str = "text/html"
     size: int | None = None
     allow: str = ""
+    cookie: str = ""
 
 
 class Layouts:
     """words: the file of the office's own words, which is read for each page."""
 
     def __init__(self, languages, words):
-        self.words = words
+        self.words, self.languages = words, languages
         compiled = Compiled()
         self.env = {code: environment(one, languages, compiled) for code, one in languages.items()}
 
@@ -60,6 +65,14 @@ class Layouts:
         for env in self.env.values():
             for name in env.list_templates():
                 env.get_template(name)
+
+    def choose(self, path, header):
+        """The language of an address or that which a reader wishes; and the two parts of the address."""
+        code, _, rest = path[1:].partition("/")
+        if code in self.languages and not rest.startswith("public/"):  # which are no pages
+            return self.languages[code], f"/{code}", f"/{rest}"
+        own = self.own().get("language")
+        return choose(self.languages, header, own if own in self.languages else "en"), "", path
 
     def template(self, request, name):
         """A template, and what each page has."""

@@ -65,8 +65,8 @@ class Pages:
     long as an aid took the next one waits; a_minute: orders that an address may give."""
 
     def __init__(self, queue, path, words, find, turn, rest, a_minute):
-        self.queue, self.path, self.find, self.turn, self.languages = queue, path, find, turn, languages.load()
-        self.layouts, self.row = Layouts(self.languages, words), orders.Row(a_minute)
+        self.queue, self.path, self.find, self.turn = queue, path, find, turn
+        self.layouts, self.row = Layouts(languages.load(), words), orders.Row(a_minute)
         self.aids, self.idle, self.mine = Aids(queue, path.parent, rest), Idle(queue, KEPT), threading.local()
 
     def asking(self, crawls, left=SOON):
@@ -74,14 +74,6 @@ class Pages:
         ask = Asking(self.queue, kind="crawler" if crawls else "page", idle=self.idle)
         ask.until = time.monotonic() + left
         return ask
-
-    def choose(self, path, header):
-        """The language of an address or that which a reader wishes; and the two parts of the address."""
-        code, _, rest = path[1:].partition("/")
-        if code in self.languages and not rest.startswith("public/"):  # which are no pages
-            return self.languages[code], f"/{code}", f"/{rest}"
-        own = self.layouts.own().get("language")
-        return languages.choose(self.languages, header, own if own in self.languages else "en"), "", path
 
     def answer(self, request):
         """The answer to a request."""

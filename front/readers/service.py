@@ -64,22 +64,16 @@ def left(environ):
         return SOON
 
 
-class Service:
-    """queue: the socket of the queue; path: the index; pages: the readers' pages; say: tells the rounds what was found
-    late."""
+class Answering:
+    """pages: what answers."""
 
-    def __init__(self, queue, path, say):
-        self.queue, self.path, self.say, self.mine, self.pages = queue, path, say, threading.local(), None
-        self.turns, self.idle = Turns(), Idle(queue, PLACES)
+    def __init__(self, pages=None):
+        self.pages = pages
 
     def app(self, environ, start):
         """Answers a request, as WSGI asks for."""
         method, path, args = environ["REQUEST_METHOD"], environ["PATH_INFO"], members(environ.get("QUERY_STRING", ""))
-        if path == "/public/search" and method == "GET":
-            told = self.find(args, args.get("lang"), whose(environ), time.monotonic() + left(environ))[0]
-            answer, headers = Answer(200, json.dumps(told, ensure_ascii=False), "application/json"), []
-        else:
-            answer, headers = self.page(environ, method, path, args)
+        answer, headers = self.answer(environ, method, path, args)
         charset = "" if answer.kind == "application/json" else "; charset=utf-8"
         headers.append(("Content-Type", answer.kind + charset))
         body, size = answer.body, answer.size
@@ -93,31 +87,51 @@ class Service:
         start(f"{status.value} {status.phrase}", headers)
         return pieces
 
-    def page(self, environ, method, path, args):
+    def answer(self, environ, method, path, args):
         """A page, and what its head says besides."""
         form = []
         if method == "POST":
             size = int(environ.get("CONTENT_LENGTH") or 0)  # of a longer form nothing is read: a part may name another box
             form = fields(environ["wsgi.input"].read(size).decode("utf-8", "replace")) if size <= LONGEST else []
-        language, at, path = self.pages.choose(path, environ.get("HTTP_ACCEPT_LANGUAGE", ""))
+        language, at, path = self.pages.layouts.choose(path, environ.get("HTTP_ACCEPT_LANGUAGE", ""))
         headers = [] if path.startswith("/public/") else [
             ("Content-Language", language.code), *[("Vary", "Accept-Language, Cookie")] * (not at)]
         chosen = args.pop("lang", None)
-        if headers and chosen in self.pages.languages and method == "GET":  # to the address of the page in that language
+        if headers and chosen in self.pages.layouts.languages and method == "GET":  # to the page's address in that language
             at, answer = f"/{chosen}", Answer(302, quote(path, encoding="latin-1") + (f"?{urlencode(args)}" if args else ""))
             headers.append(("Set-Cookie", f"lang={chosen}; Path=/; SameSite=Lax; HttpOnly"))
         else:
             answer = self.pages.answer(Request(
                 method, at, path, args, language, f"{environ['wsgi.url_scheme']}://{environ.get('HTTP_HOST', 'localhost')}",
                 environ.get("HTTP_RECORD_OFFICE_SITE", ""),
-                whose(environ), self.pages.asking("HTTP_RECORD_OFFICE_CRAWLER" in environ, left(environ)), form))
+                whose(environ), self.pages.asking("HTTP_RECORD_OFFICE_CRAWLER" in environ, left(environ)), form,
+                *(environ.get(f"HTTP_RECORD_OFFICE_{name}", "") for name in ("TICKET", "BY", "SECRET"))))
         if answer.status == 503:
             headers.append(("Retry-After", "60"))
         if answer.status in (301, 302):
             headers.append(("Location", at + answer.body))
         if answer.status == 405:
             headers.append(("Allow", answer.allow))
+        if answer.cookie:
+            headers.append(("Set-Cookie", answer.cookie))
         return answer, headers
+
+
+class Service(Answering):
+    """queue: the socket of the queue; path: the index; pages: the readers' pages; say: tells the rounds what was found
+    late."""
+
+    def __init__(self, queue, path, say):
+        super().__init__()
+        self.queue, self.path, self.say, self.mine = queue, path, say, threading.local()
+        self.turns, self.idle = Turns(), Idle(queue, PLACES)
+
+    def answer(self, environ, method, path, args):
+        """What was found, as JSON; else a page."""
+        if path != "/public/search" or method != "GET":
+            return super().answer(environ, method, path, args)
+        told = self.find(args, args.get("lang"), whose(environ), time.monotonic() + left(environ))[0]
+        return Answer(200, json.dumps(told, ensure_ascii=False), "application/json"), []
 
     def find(self, values, language, address, until=None):
         """What was found, and the list of fonds, once it is this reader's turn. until: when the reader is told."""
@@ -243,7 +257,7 @@ def main():
     service = Service(given.queue, given.index, lambda number: say(tell, number))
     service.pages = Pages(given.queue, given.index, given.words, service.find, service.turn, given.rest, given.orders)
     if given.texts:
-        languages.write(service.pages.languages, given.texts)
+        languages.write(service.pages.layouts.languages, given.texts)
     service.pages.layouts.prepare()
     processes.begin(service.app, given.listen, lambda: rounds.make(given.queue, given.index, told, given.every, given.rest))
 

@@ -22,6 +22,9 @@ export const permits = (ticket) => ask(`/desk/permits/${ticket}`, JSON.parse);
 export const queue = (container) => ask(`/desk/queue/${container}`, JSON.parse);
 export const issued = () => ask('/desk/issued', JSON.parse);
 
+/** The address and the code by which a reader sees My orders; not ok where an office has none. */
+export const ownAddress = (ticket) => ask(`/my/${ticket}`, JSON.parse);
+
 // Commands
 
 export const order = (ticket, container) => tell('/public/orders', { ticket: +ticket, container: +container });
@@ -41,6 +44,7 @@ export const setStatus = (unit, status, branch) => tell('/desk/status', { unit: 
 export const setClosure = (unit, until) => tell('/desk/closure', { unit: +unit, until });
 export const move = (unit, parent) => tell('/desk/move', { unit: +unit, parent: parent === null ? null : +parent });
 export const remove = (unit) => tell('/desk/remove', { unit: +unit });
+export const newSecret = (ticket) => tell(`/my/${ticket}`, {});
 export const importFile = (source, file) => post(`/desk/import/${encodeURIComponent(source)}`, file);
 
 // How they are sent

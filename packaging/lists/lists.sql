@@ -12,7 +12,7 @@
 -- unit at the top), its reference `code`, whether it or a unit above it is a draft, until when it or a unit above it is closed
 -- (0: open), and its `home`, the unit whose containers it lies in; above has each unit with itself and all units above it.
 -- `place.parent` is the unit right above. last_row has the first row of each unit in the last file of its source (draft and
--- parent are NULL if the file has no such column), and event what the desk's log has of seats, issues, returns and days: `what`,
+-- parent are NULL if the file has no such column), and event what the desk's log has of seats, issues, returns, days and what was cancelled: `what`,
 -- when (`time`, and `at` in seconds), by whom of the `staff`, and whether it was surely done (is_sure).
 -- The function day() writes a day as a date, and title() finds the title of a unit.
 
@@ -218,6 +218,16 @@ SELECT substr(issue.time, 1, 10) AS "Day", issue.container AS "Container", conta
 FROM issue LEFT JOIN reader USING (ticket) LEFT JOIN container ON container.id = issue.container
 LEFT JOIN event AS back ON back.at = issue.until
 ORDER BY issue.at DESC;
+
+-- list: cancelled
+-- title: Who cancelled an order, with readers' names
+-- about: Each order that was cancelled at the desk, or by its reader (My orders), the newest first, by the clock of the front. What
+--     was not answered, and may not have been done, has a question mark.
+SELECT substr(event.time, 1, 10) AS "Day", substr(event.time, 12, 5) || CASE event.is_sure WHEN 1 THEN '' ELSE '?' END AS "Cancelled",
+    event.ticket AS "Ticket", reader.name AS "Reader", event.container AS "Container", container.name AS "Name", event.staff AS "By"
+FROM event LEFT JOIN reader USING (ticket) LEFT JOIN container ON container.id = event.container
+WHERE event.what = 'cancel'
+ORDER BY event.at DESC;
 
 -- list: visit-months
 -- title: Visits by month

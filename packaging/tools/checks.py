@@ -148,8 +148,17 @@ def readers(office):
 
 
 def tries(office):
-    """The service that looks at files for the desk. It may be switched off."""
-    unit = office.unit_of("try")
+    """The service that looks at files for the desk."""
+    return unit_is_up_or_off(office.unit_of("try"))
+
+
+def my_orders(office):
+    """The service of My orders."""
+    return unit_is_up_or_off(office.unit_of("my"))
+
+
+def unit_is_up_or_off(unit):
+    """The level of a unit that may be switched off, its state, and what to do."""
     if subprocess.run(["systemctl", "is-enabled", unit], capture_output=True, text=True).stdout.strip() == "disabled":
         return OK, f"{unit} is switched off"
     return unit_is_up(unit)
@@ -393,7 +402,8 @@ def alarm(office):
     return OK, f"{to} is told"
 
 
-ALL = {"program": program, "store": store, "queue": queue, "readers": readers, "desk": desk, "try": tries, "page": page,
+ALL = {"program": program, "store": store, "queue": queue, "readers": readers, "desk": desk, "try": tries, "my": my_orders,
+       "page": page,
        "command": command, "nginx": nginx, "staff": staff, "certificate": certificate, "files": files, "disk": disk,
        "copy": copy, "copies": copies, "drill": drill, "alarm": alarm, "put aside": aside}
 

@@ -14,6 +14,7 @@ ERASED = "erased"
 TABLE = """CREATE TABLE IF NOT EXISTS erased (kind TEXT NOT NULL, ticket INTEGER, day TEXT NOT NULL, salt TEXT NOT NULL,
     digest TEXT NOT NULL, past INTEGER NOT NULL DEFAULT 0, PRIMARY KEY (kind, digest))"""
 READER, STAFF = "reader", "staff"
+READERS_NAME = "the reader"  # stands in the register in place of a name of staff
 YEARS = {"KEEP_NAMES": 10, "KEEP_VISITS": 10, "KEEP_STAFF": 3}  # unless people.conf says otherwise
 NOTICE = datetime.timedelta(30)  # between the night that first read a setting and the night that does it
 
@@ -134,7 +135,7 @@ def thin_register(office, today):
     if not office.register.exists():
         return 0, 0
     done = []
-    nobody = f"UPDATE event SET staff = '{ERASED}' WHERE staff <> '{ERASED}' AND"
+    nobody = f"UPDATE event SET staff = '{ERASED}' WHERE staff NOT IN ('{ERASED}', '{READERS_NAME}') AND"
     for name, change in (("KEEP_VISITS", "DELETE FROM event WHERE"), ("KEEP_STAFF", nobody)):
         limit = before(office, name, today)
         if limit is None or limit[1] > today:

@@ -34,6 +34,8 @@ class Office:
         self.index = pathlib.Path(f"/var/cache/record-office-readers{f'-{name}' if name else ''}/index.db")  # of the search
         self.register = self.folder / "register.db"
         self.log = pathlib.Path(f"/var/log/nginx/record-office-desk{f'-{name}' if name else ''}.log")
+        self.my = pathlib.Path(f"/var/lib/record-office-my{f'-{name}' if name else ''}")  # key and table of My orders
+        self.cards = pathlib.Path(f"/run/record-office-my{f'-{name}' if name else ''}/cards.sock")
         self.files = pathlib.Path(f"/var/lib/record-office-try{f'-{name}' if name else ''}")  # the last file of each source
         self.day = pathlib.Path(f"/run/record-office-desk{f'-{name}' if name else ''}/proxy/open-day.json")
         self.parts = self.day.parents[1] / "staff.conf"  # who of the staff has which part, for nginx

@@ -12,6 +12,7 @@ import sqlite3
 import subprocess
 import tarfile
 
+import my_cards
 from copies import copies_in, give, has_its_sum, make_whole, rest_of, settings_of, sum_of
 from erasing import TABLE
 from offices import SITES, Trouble, log_of
@@ -19,7 +20,7 @@ from offices import SITES, Trouble, log_of
 SHARE = pathlib.Path("/usr/share/record-office")
 UNITS = pathlib.Path("/etc/systemd/system")
 SECRET = b"PRIVATE KEY-----"  # a key stays on its machine: a new certificate is had in a minute
-REGISTER, FILES, SETTINGS = "register.db", "files", "settings"
+REGISTER, FILES, MY, SETTINGS = "register.db", "files", "my", "settings"
 FIRST_QUESTION = b"GET /public/fonds HTTP/1.1\r\nHost: office\r\nConnection: close\r\n\r\n"
 
 
@@ -46,6 +47,16 @@ def kept_files(office, room):
             yield path
 
 
+def my_files(office, room):
+    """The key of My orders and its table, as copies in this folder."""
+    key, table = office.my / my_cards.KEY, office.my / my_cards.TABLE
+    if key.exists() and table.exists():
+        shutil.copyfile(key, room / key.name)
+        with my_cards.opened(table) as db, my_cards.opened(room / table.name) as copy:
+            db.backup(copy)
+        yield from (room / key.name, room / table.name)
+
+
 def gather(office, copy):
     """Makes the rest of tonight's set."""
     room, new = office.copies / "gathering", office.copies / "new.tar"
@@ -58,6 +69,8 @@ def gather(office, copy):
                 rest.add(room / REGISTER, REGISTER)
             for path in kept_files(office, room):
                 rest.add(path, f"{FILES}/{path.name}")
+            for path in my_files(office, room):
+                rest.add(path, f"{MY}/{path.name}")
             for path in settings_files(office):
                 rest.add(path, f"{SETTINGS}{path}")
     finally:
@@ -105,7 +118,7 @@ def take_register(office, content):
 
 def take_rest(office, copy, with_settings):
     """Takes back what belongs to a copy. Returns how many files of each kind."""
-    many = {REGISTER: 0, FILES: 0, SETTINGS: 0}
+    many = {REGISTER: 0, FILES: 0, MY: 0, SETTINGS: 0}
     for member, content in members(copy):
         kind, _, name = member.name.partition("/")
         if kind == REGISTER:
@@ -114,6 +127,8 @@ def take_rest(office, copy, with_settings):
             office.make_folder(office.files)
             (office.files / name).write_bytes(content)
             shutil.chown(office.files / name, office.owner.pw_uid, office.owner.pw_gid)
+        elif kind == MY:
+            my_cards.take(office, name, content)
         elif kind == SETTINGS and with_settings:
             put_setting(member, content)
         else:
