@@ -46,8 +46,8 @@ def void(office, tickets):
     """Takes back the secrets of erased readers, who get no more messages."""
     if (office.my / TABLE).exists():
         with opened(office.my / TABLE) as db:
-            db.executemany("INSERT INTO card (ticket, taken) VALUES (?, 1) ON CONFLICT DO UPDATE SET taken = taken + 1, wants = 0, "
-                           "told = '[]'", [(ticket,) for ticket in tickets])
+            db.executemany("INSERT INTO card (ticket, taken) VALUES (?, 1) "
+                           "ON CONFLICT DO UPDATE SET taken = taken + 1, wants = 0, told = '[]'", ((it,) for it in tickets))
 
 
 def lines(office):
@@ -68,8 +68,8 @@ def asked(office, request):
 
 
 def tell_ready(office):
-    """Runs the operator's command once for each ticket whose reader wants to know that something is ready: it finds the number on
-    its standard input. What failed is tried again the next time."""
+    """Runs the operator's command once for each ticket whose reader wants to know that something is ready: it finds the number
+    on its standard input. What failed is tried again the next time."""
     command = conf_of(office, "READY_COMMAND", "my-orders.conf")
     if not command or not office.cards.exists():
         return
