@@ -213,8 +213,11 @@ def test_a_restore_erases_again_who_was_erased_and_nobody_else(place: Any, capsy
     assert names_in(place.store) == ["erased", "Ben", "erased"]
     assert b"Ada" not in place.store.read_bytes() and b"Ada" not in place.register.read_bytes()
     office_with(copy, ["Ada Stone", "Ben", "Cid"])
+    place.files.mkdir()
+    as_owner("sqlite3", place.files / "ordered.db", "CREATE TABLE wanted (ticket); INSERT INTO wanted VALUES (1), (2), (3)")
     restore.erase_again(place, copy)
     assert names_in(copy) == ["erased", "Ben", "erased"]
+    assert as_owner("sqlite3", place.files / "ordered.db", "SELECT * FROM wanted") == "2", "what others wanted stays"
     assert re.findall(r"name of ticket (\d)", capsys.readouterr().out) == ["1", "3"]
     erasing.pass_over(place, 1)  # a copy with one ticket: the others are given again
     office_with(copy, ["Ada Stone", "Dora", "Emil"])

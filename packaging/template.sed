@@ -4,7 +4,7 @@ s#/var/lib/record-office\>#&-%i#g
 s#/etc/record-office/#&%i/#
 s#/etc/nginx/sites-enabled/record-office#&-%i#
 s/record_office_strangers/record_office_%i_strangers/
-s#/run/record-office-\(queue\|readers\|desk\|try\|my\)\>#&-%i#
+s#/run/record-office-\(queue\|readers\|desk\|try\|my\)\>#&-%i#g
 s#/var/backups/record-office\>#&-%i#g
 s/^User=record-office-pages$/&-%i/
 s/^\(State\|Cache\|Runtime\)Directory=.*/&-%i/

@@ -24,6 +24,9 @@ twice() {
     systemctl start record-office
 }
 
+# wanted TICKET: the units that the orders of a ticket are for
+wanted() { sqlite3 /var/lib/record-office-try/ordered.db "SELECT unit FROM wanted WHERE ticket = $1"; }
+
 # A reader who has a closed box by a permit, and whose name stands in a list, a copy and an office that was put aside.
 reader() {
     local ticket
@@ -32,7 +35,8 @@ reader() {
     twice "$ticket"
     ask closure '{"unit":2,"until":"2030-01-01"}' >/tmp/said
     ask permit "{\"ticket\":$ticket,\"unit\":2,\"until\":\"2030-01-01\"}" >/tmp/said
-    curl -s -u desk:quiet-paper -d "{\"ticket\":$ticket,\"container\":1}" $desk/public/orders >/tmp/said
+    curl -s -d "ticket=$ticket&container=1" http://127.0.0.1:8080/unit/2/order >/tmp/said
+    same 'the desk knows which unit was wanted' "$(wanted "$ticket")" 2
     ask run '' >/tmp/said
     ask seat "{\"ticket\":$ticket}" >/tmp/said
     same 'the box is out by permit' "$(ask issue "{\"ticket\":$ticket,\"container\":1}" | cut -c1-9)" '{"order":'
@@ -50,6 +54,7 @@ reader() {
     cp /tmp/out /tmp/said
     for place in "$copy " "$lists/readers.html " "${office%/*}/replaced-"; do is "it is said that the name is in $place" grep "the name is still in $place" /tmp/said; done
     same 'no byte of the file or its log has the name' "$(cat $office* | grep -c Zephyrine)" 0
+    same 'nor does the desk know what was wanted' "$(wanted "$ticket")" ''
     same 'nor a permit' "$(ask "permits/$ticket")" '[]'
     same 'with the ticket nobody can order' "$(curl -s -u desk:quiet-paper -d "{\"ticket\":$ticket,\"container\":2}" $desk/public/orders | grep -o '"code":[0-9]*')" '"code":4'
     rm -r "${office%/*}"/replaced-*
@@ -71,6 +76,7 @@ tries() {
     is 'the office is as it was' sh -c "curl -s $desk/public/units/2 -u desk:quiet-paper | grep Minutes"
     pid=$(systemctl show -p MainPID --value record-office-try)
     is 'the service does not see the office' hidden "$pid" $office
+    same 'nginx alone may ask it, and the readers'"'"' service tell it' "$(stat -c '%a %G' /run/record-office-try/*.sock | xargs)" '620 record-office-readers 660 www-data'
     is 'it has no network' sh -c "nsenter -t $pid -n ip -br link 2>/dev/null | grep -vq '^lo' && exit 1; exit 0"
     is 'a file is looked at' sh -c "curl -s -u desk:quiet-paper --data-binary @/root/tried.csv $desk/try/look | grep -q '\"counts\":{\"rows\":'"
     same 'a file is kept' "$(curl -s -u desk:quiet-paper --data-binary @/root/tried.csv $desk/try/imported/catalogue)" '{"kept": "catalogue"}'

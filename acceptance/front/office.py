@@ -224,7 +224,8 @@ class Office(client.Office):
         answers."""
         with open(self.folder / "readers.told", "a") as log:
             words = [PYTHON, "-B", "-E", "-s", READERS / "service.py", "--queue", self.queue, "--index", self.index,
-                     "--listen", self.folder, "--words", self.words, "--texts", self.folder / "texts", *(more or QUICK)]
+                     "--listen", self.folder, "--words", self.words, "--texts", self.folder / "texts",
+                     "--desk", self.folder / "ordered.sock", *(more or QUICK)]
             names = {"MALLOC_ARENA_MAX": "1", **({"TZ": zone} if zone else {})}  # the first as its unit has it
             self.service = subprocess.Popen([str(word) for word in words], stdout=log, stderr=log, process_group=0,
                                             env={**os.environ, **names})
@@ -257,7 +258,7 @@ class Office(client.Office):
             folder.mkdir(exist_ok=True)
         with open(self.folder / "try.told", "a") as log:
             words = [PYTHON, "-B", "-s", FRONT / "try/service.py", "--copies", self.copies, "--files", self.kept, "--listen",
-                     place, "--program", self.program.path]
+                     place, "--ordered", self.folder / "ordered.sock", "--program", self.program.path]
             self.trying = subprocess.Popen([str(word) for word in words], stdout=log, stderr=log,
                                            env={**os.environ, "PYTHONPATH": str(FRONT / "look")})  # as its unit has it
         self.wait_for_socket(place, self.trying)

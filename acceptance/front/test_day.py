@@ -11,7 +11,6 @@ import pytest
 from acceptance.front.catalogue import ODD, archives, dock_company
 from acceptance.front.desk_state import ANN, BEN, FAR
 from acceptance.front.office import MANY_PAGES, SELDOM
-from acceptance.front.waits import until
 
 pytestmark = [pytest.mark.browser, pytest.mark.needs("chromium")]
 
@@ -48,16 +47,6 @@ def test_two_presses_register_a_reader_once_under_the_name_that_was_typed(desk, 
         desk.see(f"Registered: {name}, ticket", ".outcome")
     assert asks.next_ticket() == first + len(NEW)
     assert [asks.read(f"/desk/readers/{first + place}")["name"] for place in range(len(NEW))] == list(NEW)
-
-
-def test_a_ticket_number_leads_to_the_card(desk, state):
-    """Where a name is asked for."""
-    ben = state.readers()[1]
-    desk.at("/readers")
-    desk.fill("Name or ticket number", ben)
-    desk.press("Find")
-    desk.wait(f"location.hash === '#/readers/{ben}'")
-    desk.see(BEN)
 
 
 def test_a_known_name_a_past_day_and_spaces_are_not_registered_unasked(desk, state, asks):
@@ -121,22 +110,6 @@ def test_a_ticket_is_renewed_by_keys_alone(desk, state, asks):
 
 
 # Orders and runs
-
-def test_the_desk_orders_for_readers_and_cancels_an_order(desk, state):
-    _, ben, zoe, _ = state.start()
-    placed = []
-    desk.at("/orders")
-    for ticket, container in ((ben, state.container("Roll 7")), (zoe, state.container(ODD["markup"]))):
-        desk.fill("Ticket", ticket, "Place an order")
-        desk.fill("Container", container, "Place an order")
-        desk.press("Order", "Place an order")
-        placed += until(lambda ticket=ticket: state.orders_of(ticket), "the order is placed")
-        desk.see(f"Order {placed[-1]}:", ".outcome")
-    desk.fill("Order", placed[0], "Cancel an order")
-    desk.press("Cancel the order", "Cancel an order")
-    desk.see(f"Order {placed[0]} is cancelled.")
-    assert state.orders_of(ben) == {}
-
 
 def test_the_slip_of_a_run_is_the_programs_with_reader_place_and_code_beside_it(desk, state, asks):
     ann, ben, zoe, _ = state.start()
@@ -203,23 +176,6 @@ def test_the_desk_says_why_a_run_passed_an_order_over(desk, state, asks):
     desk.go("#/orders")
     desk.see("passed it over")
     asks.command("/desk/closure", unit=unit, until=None)
-
-
-def test_what_waits_is_cancelled_in_its_row(desk, state):
-    ann, ben, *_ = state.start()
-    box = state.container("Box 1")
-    first, second = state.order(ann, box), state.order(ben, box)
-    desk.at("/orders").see("on its shelf, for another reader first")
-    desk.press(f"Cancel order {first}")
-    desk.see(f"Order {first} is cancelled.")
-    desk.wait(f"document.activeElement.innerText.includes('Order {first} is cancelled.')")
-    desk.see("1 order waits.")
-    assert "for another reader first" not in desk.text(), "who waits next is told anew"
-    assert (state.orders_of(ann), state.orders_of(ben)) == ({}, {second: "waiting"})
-    desk.go("#/out")
-    desk.go("#/orders")
-    desk.see("1 order waits.")
-    assert f"order {first}" not in desk.text()
 
 
 # The counter, by keyboard and barcode reader alone

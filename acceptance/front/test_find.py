@@ -106,26 +106,6 @@ def test_a_reader_of_today_is_found_though_the_copy_is_of_last_night(desk, asks)
 
 @pytest.mark.browser
 @pytest.mark.needs("chromium")
-def test_a_permit_is_given_and_a_unit_moved_by_reference_codes_and_staff_see_what_they_decide_on(desk, asks):
-    desk.at("/readers/5").fill("Unit", "HUL/2", "Give a permit")
-    desk.fill("Last day of the permit", "2029-01-01", "Give a permit")
-    desk.see("GB 0999 HUL/2, Plans of the locks, 1803-1829 Closed until 2030-01-01.")
-    desk.press("Give a permit", "Give a permit")
-    desk.see("Permit for unit 3 until 2029-01-01.")
-    for typed in ("HUL/99", "letters"):  # of several units that have a word, a colleague may mean another than the first
-        desk.at("/readers/5").fill("Unit", typed, "Give a permit")
-        desk.fill("Last day of the permit", "2029-01-01", "Give a permit")
-        desk.press("Give a permit", "Give a permit")
-        desk.see("There is no unit with this number")
-    desk.at("/units/4").see("GB 0999 HUL/3, Letters of the secretary Draft")
-    desk.fill("Below which unit", "HUL/1", "Move")
-    desk.press("Move", "Move")
-    desk.see("It is now the last below unit 2.")
-    asks.command("/desk/move", unit=4, parent=1)
-
-
-@pytest.mark.browser
-@pytest.mark.needs("chromium")
 def test_without_the_service_scanned_codes_and_numbers_still_lead_to_their_pages(desk, office):
     with office.without_tries():
         desk.at("/find/T5").wait("location.hash === '#/readers/5'")

@@ -27,7 +27,8 @@ def written(path):
     path = re.sub(r"N$", "1", path.replace("SOURCE", "catalogue").replace("LANGUAGE", "de"))
     if "-without-row" in path:
         path += "-catalogue"
-    return [f"{path}.html", f"{path}.csv"] if re.fullmatch(r"/lists/[\w-]+", path) else [path]
+    ends = [".html", ".csv", *["-2024.svg"] * path.startswith("/lists/year-")]
+    return [path + end for end in ends] if re.fullmatch(r"/lists/[\w-]+", path) else [path]
 
 
 @pytest.fixture(scope="module")

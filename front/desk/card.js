@@ -9,11 +9,11 @@ import { askIfPast } from './days.js';
 import { lookAtPermits, lookAtReader } from './looks.js';
 import { myOrdersCard } from './my_orders.js';
 import { boxLink, readCard } from './names.js';
-import { orderedBoxField } from './ordered_box.js';
+import { boxOrder } from './ordered_box.js';
 import { card, heldContainer, notDone, problem, rowForm, said, unitLink } from './parts.js';
-import { boxOf } from './scans.js';
 import { may } from './signed_in.js';
 import { NO_UNIT, unitField, unitNamed } from './unit_field.js';
+import { wantedOf } from './wanted.js';
 
 const STATES = { waiting: text('waiting'), out: text('out') };
 const PERMIT = text('A permit opens a closed unit to this reader, with the closed units above and below it. It does not open drafts.');
@@ -63,8 +63,9 @@ function readerParts(view, { until, seat, orders }) {
 
 function orderTable(view, orders) {
   const heads = [textAs('noun', 'Order'), text('Container'), text('State'), text('Cancel')];
+  const wanted = wantedOf(orders.map((one) => ({ ...one, ticket: view.ticket })));
   return table(text('Orders'), heads, orders.map(({ order, container, state }) =>
-    [String(order), boxLink(container), STATES[state] ?? state, state === 'waiting' ? cancelForm(view, order) : '']));
+    [String(order), [boxLink(container), wanted({ order })], STATES[state] ?? state, state === 'waiting' ? cancelForm(view, order) : '']));
 }
 
 function cancelForm(view, order) {
@@ -107,8 +108,11 @@ const markSeatButton = (view) => view.seatButton?.classList.toggle('plain', view
 const leaveForm = (view) => command(view, 'leave of', text('Free the seat'), () => routes.leaveSeat(view.ticket),
   ({ seat }) => [text('Seat {seat} is free.', { seat })], { kind: 'plain' });
 
-const orderForm = (view) => command(view, 'order of', text('Order'), ({ container }) => routes.order(view.ticket, boxOf(container)),
-  ({ order }, { container }) => phrase('Order {order} for {container}.', { order, container: boxLink(boxOf(container)) }), { fields: orderedBoxField() });
+function orderForm(view) {
+  const { fields, before, send, box } = boxOrder();
+  return command(view, 'order of', text('Order'), () => send(view.ticket),
+    ({ order }) => phrase('Order {order} for {container}.', { order, container: boxLink(box()) }), { fields, before });
+}
 
 const renewForm = (view) => command(view, 'renewal of', text('Renew'), ({ until }) => routes.renew(view.ticket, until),
   (value, { until }) => phrase('Good until {until}.', { until }), {

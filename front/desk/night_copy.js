@@ -22,6 +22,16 @@ export const findInCopy = (typed) => fromCopy('find', typed);
 /** Where these boxes belong, and what in them is not open to everybody: { ok: true, value: { copy, boxes } }, or as differencesFrom. */
 export const boxesInCopy = (containers) => fromCopy('boxes', JSON.stringify(containers.map(Number)));
 
+/** The units that orders are for, as far as they are known, each order with its ticket and its container. */
+export async function unitsWanted(orders) {
+  const numbers = orders.map(({ order, ticket, container }) => [order, ticket, container].map(Number));
+  const answer = numbers.length > 0 ? await fromCopy('wanted', JSON.stringify(numbers)) : { ok: false };
+  return answer.ok ? answer.value.orders : [];
+}
+
+/** Tells the service for which unit an order is, or why one was refused. If nobody takes it, the order is as good. */
+export const tellOrdered = (taken, refused) => post('ordered', JSON.stringify({ taken, refused }));
+
 async function fromCopy(what, body) {
   const response = await post(what, body);
   if (isAway(response)) return { ok: false, kind: 'away' };

@@ -1,21 +1,65 @@
-// A field for a box that is to be ordered, which says what in the box is not open to everybody, as the copy of the night has it.
+// What orders a box: a field that takes its number, its code or the reference code of the unit that is wanted, and says what in
+// the box is not open to everybody, as the copy of the night has it. Which unit was wanted is told with the order.
 
 import { el, link, words } from '../shared/dom.js';
 import { counted, text } from '../shared/language.js';
-import { boxesInCopy } from './night_copy.js';
+import { order } from '../shared/routes.js';
+import { boxesInCopy, tellOrdered } from './night_copy.js';
 import { boxField, boxOf } from './scans.js';
-import { unitState } from './unit_field.js';
+import { unitMeant, unitState } from './unit_field.js';
 
-export function orderedBoxField() {
-  const row = boxField();
+const NO_BOX = { ok: false, kind: 'refused', refused: 'UnknownContainer' };
+const ANY = '(?!\\s*[Tt]\\s*[0-9]+\\s*$).*\\S.*'; // but the code of a ticket
+
+/** The fields of an order, what finds its box before it is sent, what sends it for a ticket, and which box it then is for. */
+export function boxOrder() {
+  const row = boxField({ hint: text('Its number or barcode, or the reference code of what is wanted.') });
+  const input = row.querySelector('input');
+  Object.assign(input, { pattern: ANY, inputMode: 'text', maxLength: 200, className: '' });
   const told = el('div', { class: 'about', role: 'status' });
-  row.querySelector('input').addEventListener('change', async ({ target }) => {
-    const typed = target.value;
-    target.form.addEventListener('reset', () => told.replaceChildren(), { once: true });
-    const lines = await notOpenIn(boxOf(typed));
-    if (target.value === typed) told.replaceChildren(...lines);
+  const meant = { box: null, unit: null };
+  input.addEventListener('change', async () => {
+    const typed = input.value;
+    input.form.addEventListener('reset', () => { meant.unit = null; told.replaceChildren(); }, { once: true });
+    await find(meant, typed);
+    const lines = [...boxesOf(meant), ...await notOpenIn(meant.box)];
+    if (input.value === typed) told.replaceChildren(...lines);
   });
-  return [row, told];
+  return {
+    fields: [row, told], box: () => meant.box,
+    before: async ({ container }) => ((await find(meant, container)) === null ? NO_BOX : null),
+    send: (ticket) => place(ticket, meant),
+  };
+}
+
+/** The box that was meant: that of the number or, of a unit with one box alone, the unit's. A number of one of the boxes of the
+ * unit that was typed before is for that unit. */
+async function find(meant, typed) {
+  const number = boxOf(typed);
+  if (number === null) meant.unit = typed.trim() === '' ? null : await unitMeant(typed);
+  else if (!meant.unit?.boxes.some(({ container }) => container === Number(number))) meant.unit = null;
+  const boxes = meant.unit?.boxes ?? [];
+  meant.box = number ?? (boxes.length === 1 ? String(boxes[0].container) : null);
+  return meant.box;
+}
+
+const BOXES = [text('It is in no container.'), text('It is in:')];
+const SEVERAL = text('It is in several containers. Type the number of one:');
+
+function boxesOf({ unit }) {
+  return unit ? [
+    el('p', {}, words([unit.code, unit.title, unit.dates].filter(Boolean).join(', ')), ' ', unitState(unit)),
+    el('p', {}, BOXES[unit.boxes.length] ?? SEVERAL),
+    unit.boxes.length > 0 && el('ul', { class: 'lower' }, unit.boxes.map(({ container, name, location }) =>
+      el('li', {}, words([name, location].filter(Boolean).join(', ')), ' ', text('container {number}', { number: container })))),
+  ].filter(Boolean) : [];
+}
+
+async function place(ticket, { box, unit }) {
+  const answer = await order(ticket, box);
+  if (answer.ok && unit) tellOrdered([[answer.value.order, ticket, box, unit.unit].map(Number)], []);
+  else if (answer.kind === 'refused') tellOrdered([], [[Number(box), answer.refused]]);
+  return answer;
 }
 
 /** What in a box is a draft or closed; nothing if all is open, or if nobody can tell. */

@@ -6,12 +6,12 @@ import { commandForm } from '../shared/form.js';
 import { phrase, text, textAs } from '../shared/language.js';
 import { numberOf } from '../shared/numbers.js';
 import { deskWords } from '../shared/refusals.js';
-import { cancel, order } from '../shared/routes.js';
+import { cancel } from '../shared/routes.js';
 import { lookAtReader, onceMore } from './looks.js';
 import { boxLink, readerLink } from './names.js';
-import { orderedBoxField } from './ordered_box.js';
+import { boxOrder } from './ordered_box.js';
 import { card, said } from './parts.js';
-import { boxOf, ticketField, ticketOf } from './scans.js';
+import { ticketField, ticketOf } from './scans.js';
 import { waitingList } from './waiting.js';
 
 export function ordersPage() {
@@ -24,13 +24,14 @@ export function ordersPage() {
 }
 
 function placeForm() {
+  const { fields, before, send, box } = boxOrder();
   return commandForm({
-    key: 'order', fields: [ticketField(), orderedBoxField()],
+    key: 'order', fields: [ticketField(), fields], before,
     button: text('Order'),
-    send: ({ ticket, container }) => order(ticketOf(ticket), boxOf(container)),
-    done: (value, { ticket, container }) =>
+    send: ({ ticket }) => send(ticketOf(ticket)),
+    done: (value, { ticket }) =>
       said(phrase('Order {order}: {container} for {reader}.', {
-        order: value.order, container: boxLink(boxOf(container)), reader: readerLink(ticketOf(ticket)) })),
+        order: value.order, container: boxLink(box()), reader: readerLink(ticketOf(ticket)) })),
     explain: deskWords,
     look: ({ ticket }) => lookAtReader(ticketOf(ticket)),
   });

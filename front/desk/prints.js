@@ -11,6 +11,7 @@ import { addressParts } from './my_orders.js';
 import { readerWords } from './names.js';
 import { problem } from './parts.js';
 import { boxCode, ticketCode } from './scans.js';
+import { onPaper, wantedOf } from './wanted.js';
 
 /** The call slips of a run: one for each order. */
 export async function callSlipsPage(run) {
@@ -21,7 +22,8 @@ export async function callSlipsPage(run) {
   const print = printButton(text('Print the call slips'));
   const title = text('Call slips of run {run}', { run });
   const slips = el('div', { class: 'call-slips' });
-  const show = () => slips.replaceChildren(...lines.map((line) => callSlip(line, names.get(line.container), run, day)));
+  const wanted = wantedOf(lines, onPaper);
+  const show = () => slips.replaceChildren(...lines.map((line) => callSlip(line, names.get(line.container), run, day, wanted(line))));
   show();
   findCodes(lines.map((line) => line.container)).then(show);
   return { title, focus: print, content: [
@@ -37,13 +39,13 @@ async function namesOf(lines) {
   return names;
 }
 
-function callSlip(line, name, run, day) {
+function callSlip(line, name, run, day, wanted) {
   const location = name === undefined ? null : locationIn(line.place, name);
   return el('section', { class: 'call-slip' },
     location === null ? words(line.place, 'p', { class: 'from-where' })
       : [words(location || '-', 'p', { class: 'from-where' }),
         el('p', { class: 'what' }, words(name), el('small', {}, ' ', text('container {number}', { number: line.container })))],
-    codeList(line.container),
+    wanted, codeList(line.container),
     el('p', {}, phrase('{reader}, ticket {ticket}', { reader: readerWords(line.ticket, 'strong'), ticket: line.ticket })),
     el('p', { class: 'quiet' }, phrase('Order {order}, run {run}, {day}', { order: line.order, run, day })),
     el('div', { class: 'codes-of' }, barcode(boxCode(line.container)), barcode(ticketCode(line.ticket))));

@@ -9,6 +9,7 @@ import { codeList, findCodes } from './codes.js';
 import { boxLink, containerName, readerLink } from './names.js';
 import { problem } from './parts.js';
 import { waitingList } from './waiting.js';
+import { wantedOf } from './wanted.js';
 
 export async function slipPage(run) {
   const answer = await slip(run);
@@ -34,9 +35,10 @@ const back = () => el('p', { class: 'no-print' }, link('#/runs', text('All runs'
 function beside(lines) {
   const place = el('div', {});
   const told = el('p', { class: 'told no-print', role: 'status' });
+  const wanted = wantedOf(lines);
   const show = () => place.replaceChildren(table(text('What to fetch, and for whom'),
     [text('Location'), text('Container'), textAs('noun', 'Order'), text('Reader'), text('Reference code')], lines.map((line) =>
-      [words(locationOf(line)), boxLink(line.container), line.order, readerLink(line.ticket), codeList(line.container)])));
+      [words(locationOf(line)), boxLink(line.container), line.order, readerLink(line.ticket), [wanted(line), codeList(line.container)]])));
   show();
   lookForCodes(lines, told, show);
   return el('section', { class: 'beside' }, place, told);

@@ -40,7 +40,8 @@ export function unitState({ draft, belowDraft, until }) {
   return until === null ? '' : text('Closed until {until}.', { until });
 }
 
-async function unitMeant(typed) {
+/** The unit that was meant, as the copy has it; null if there is none, or more than one. */
+export async function unitMeant(typed) {
   const answer = await findInCopy(typed);
   const [first, second] = answer.ok ? answer.value.units : [];
   return first && (!second || second.rank > first.rank) ? { ...first, copy: answer.value.copy } : null;

@@ -12,6 +12,7 @@ import { lookAtReader } from './looks.js';
 import { boxLink, knownCards, newestTicket, readCard, readerLink, saveCards } from './names.js';
 import { paced, progress } from './pace.js';
 import { card, rowForm, runLink, said } from './parts.js';
+import { wantedOf } from './wanted.js';
 
 const FEW = 200; // up to so many cards are asked for without a press of the button
 
@@ -112,11 +113,11 @@ function showGathered(view, { orders, places, run, moment, skipped }) {
   const old = counted(skipped, 'Not read again: {number} expired ticket without an order.',
     'Not read again: {number} expired tickets without an order.');
   view.told.textContent = `${few} ${asOf(moment)}${skipped > 0 ? ` ${old}` : ''}`;
-  showOrders(view, orders, places, run);
+  showOrders(view, orders, places, run, wantedOf(orders));
 }
 
-function showOrders(view, orders, places, run) {
-  const rows = orders.map((order) => [String(order.order), boxLink(order.container), readerLink(order.ticket),
+function showOrders(view, orders, places, run, wanted = () => '') {
+  const rows = orders.map((order) => [String(order.order), [boxLink(order.container), wanted(order)], readerLink(order.ticket),
     whereFor(order, places.get(order.container), run), places.size > 0 && cancelForm(view, order)]);
   view.list.replaceChildren(...(rows.length === 0 ? [] : [
     table(text('Orders that wait, the oldest first'), [textAs('noun', 'Order'), text('Container'), text('Reader'), text('Where it is'),

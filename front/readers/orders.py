@@ -1,6 +1,9 @@
 """Orders that readers give with a form: one command a container, never twice, and what came of each."""
 
+import contextlib
+import json
 import re
+import socket
 import threading
 import time
 from typing import NamedTuple
@@ -27,12 +30,13 @@ OF_THE_TICKET = {"UnknownTicket", "TicketExpired", "DailyLimit", "Full"}  # whic
 
 class Done(NamedTuple):
     """What came of one order: the container, the unit that it was ordered for, and either the order's number or why it
-    was not taken."""
+    was not taken, with the name of the refusal if the office has refused it."""
 
     box: int
     unit: int
     order: int | None
     refused: str | None
+    name: str | None = None
 
 
 class Row:
@@ -87,5 +91,16 @@ def give_one(queue, ticket, box):
     if status == 200:
         return (reply["order"], None), True
     if status == 409:
-        return (None, REFUSALS.get(reply.get("refused"), OTHER)), reply.get("refused") not in OF_THE_TICKET
+        name = reply.get("refused")
+        return (None, REFUSALS.get(name, OTHER), name), name not in OF_THE_TICKET
     return (None, {0: UNCERTAIN, 502: UNCERTAIN, 504: UNCERTAIN, 503: UNSENT}.get(status, OTHER)), False
+
+
+def tell_desk(path, ticket, done):
+    """Tells the desk's own service, by a socket that answers nothing, for which units these orders are and why others were
+    refused. If it is away, nobody knows, and the orders are as good."""
+    told = {"taken": [[one.order, ticket, one.box, one.unit] for one in done if one.order],
+            "refused": [[one.box, one.name] for one in done if one.name]}
+    with contextlib.suppress(OSError), socket.socket(socket.AF_UNIX, socket.SOCK_DGRAM) as it:
+        it.setblocking(False)
+        it.sendto(json.dumps(told).encode(), str(path))

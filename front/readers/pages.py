@@ -62,10 +62,11 @@ class Way(NamedTuple):
 class Pages:
     """queue: the socket of the queue; path: the index, in whose folder finding aids are kept while they are sent; words:
     the file of the office's own words; find: answers a search; turn: of an address among searches; rest: how many times as
-    long as an aid took the next one waits; a_minute: orders that an address may give."""
+    long as an aid took the next one waits; a_minute: orders that an address may give; desk: the socket where the desk is told
+    what was ordered."""
 
-    def __init__(self, queue, path, words, find, turn, rest, a_minute):
-        self.queue, self.path, self.find, self.turn = queue, path, find, turn
+    def __init__(self, queue, path, words, find, turn, rest, a_minute, desk=None):
+        self.queue, self.path, self.find, self.turn, self.desk = queue, path, find, turn, desk
         self.layouts, self.row = Layouts(languages.load(), words), orders.Row(a_minute)
         self.aids, self.idle, self.mine = Aids(queue, path.parent, rest), Idle(queue, KEPT), threading.local()
 
@@ -277,6 +278,8 @@ class Pages:
             return {"wrong": orders.NO_BOX if ticket else orders.NO_TICKET, "done": [], "taken": [],
                     "typed": dict(request.form).get("ticket", "")}
         done = orders.give(self.queue, self.row, request.address, ticket, items)
+        if self.desk:
+            orders.tell_desk(self.desk, ticket, done)
         request.ask.until = max(request.ask.until, time.monotonic() + 1)  # for the page that tells it
         return {"done": done, "taken": [one for one in done if one.order], "ticket": ticket}
 

@@ -1,7 +1,7 @@
 """The readers' service: pages and the search in all archives for nginx.
 
     service.py --queue SOCKET --index FILE --listen FOLDER [--words FILE] [--every SECONDS] [--rest TIMES]
-               [--orders MANY]
+               [--orders MANY] [--desk SOCKET]
 
 GET /public/search?q=WORDS[&in=UNIT][&from=YEARS][&to=YEARS][&level=LEVEL][&creator=NAME][&undated=1][&order=date]
 [&after=PLACE][&lang=LANGUAGE] is answered with JSON: state, units, more, after; count, exact, and first, the place of the
@@ -244,6 +244,7 @@ def options():
     words.add_argument("--every", type=float, default=60, help="seconds from the end of a round to the next")
     words.add_argument("--rest", type=float, default=4,
                        help="how many times as long as the office took rounds and finding aids rest after a question")
+    words.add_argument("--desk", type=pathlib.Path, help="the socket where the desk's own service is told what was ordered")
     words.add_argument("--orders", type=float, default=6, help="orders a minute that one address may give")
     return words.parse_args()
 
@@ -255,7 +256,8 @@ def main():
     tell, told = socket.socketpair(socket.AF_UNIX, socket.SOCK_SEQPACKET)
     tell.setblocking(False)
     service = Service(given.queue, given.index, lambda number: say(tell, number))
-    service.pages = Pages(given.queue, given.index, given.words, service.find, service.turn, given.rest, given.orders)
+    service.pages = Pages(given.queue, given.index, given.words, service.find, service.turn, given.rest, given.orders,
+                          given.desk)
     if given.texts:
         languages.write(service.pages.layouts.languages, given.texts)
     service.pages.layouts.prepare()

@@ -33,7 +33,7 @@ async function showAgain() {
   const mine = ++turn;
   const kept = history.state;
   shown = null;
-  const slow = setTimeout(() => site.main.replaceChildren(waiting()), 400);
+  const slow = setTimeout(() => mine === turn && site.main.replaceChildren(waiting()), 400);
   const page = await pageOrFailure(location.hash);
   clearTimeout(slow);
   if (mine !== turn) return;

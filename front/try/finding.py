@@ -48,7 +48,8 @@ def find(path, typed):
         found = {"units": units(store, number, typed), "boxes": boxes(store, number, plain(typed).split()),
                  "readers": readers(store, number, plain(typed).split())}
         more = {kind: max(0, len(them) - MOST) for kind, them in found.items()}
-        found["units"] = [told(store, rank, seen) for rank, seen in found["units"][:MOST]]
+        found["units"] = [{**told(store, rank, seen), "boxes": placed(store, boxes)}
+                          for rank, seen, boxes in found["units"][:MOST]]
         [last] = store.execute("SELECT coalesce(max(ticket), 0) FROM reader").fetchone()
     return {**{kind: them[:MOST] for kind, them in found.items()}, "more": more, "last": last}
 
@@ -61,9 +62,7 @@ def opened(path):
 def boxes_of(path, numbers):
     """Boxes by their numbers, as far as the copy has them: their places, and the units in them that are not open to all."""
     with opened(path) as store:
-        rows = store.execute("SELECT id, name, location FROM container WHERE id IN (SELECT value FROM json_each(?))",
-                             (json.dumps(numbers),))
-        found = {box: {"container": box, "name": name, "location": location} for box, name, location in rows}
+        found = {box["container"]: box for box in placed(store, numbers)}
         withheld = {box: [] for box in found}
         for seen, boxes in housed(store) if found else ():
             if seen.is_draft or seen.is_below_draft or seen.closed:
@@ -72,6 +71,23 @@ def boxes_of(path, numbers):
         for box, units in withheld.items():
             found[box] |= {"withheld": [told(store, 0, seen) for seen in units[:MOST]], "more": max(0, len(units) - MOST)}
     return list(found.values())
+
+
+def placed(store, numbers):
+    """Boxes by their numbers, each with its name and its place."""
+    rows = store.execute("SELECT id, name, location FROM container WHERE id IN (SELECT value FROM json_each(?))",
+                         (json.dumps(list(numbers)),))
+    return [{"container": box, "name": name, "location": location} for box, name, location in rows]
+
+
+def wanted(path, notes):
+    """The units of orders, of each the numbers of order, box and unit. A unit that is not in that box, as the copy has it, is
+    left out; of one that the copy lacks there is the number alone."""
+    with opened(path) as store:
+        numbers = {unit for _, _, unit in notes}
+        known = {seen.number: (seen, boxes) for seen, boxes in housed(store) if seen.number in numbers}
+        return [{"order": order, "unit": unit, **(told(store, 0, known[unit][0]) if unit in known else {})}
+                for order, box, unit in notes if unit not in known or box in known[unit][1]]
 
 
 def housed(store):
@@ -112,15 +128,15 @@ def has_words(text, words):
 
 def units(store, number, typed):
     """The units that have this number, this reference code, its last parts, or these words in their titles, in this order,
-    each with its rank: 0 to 3."""
+    each with its rank, 0 to 3, and its boxes."""
     [office] = store.execute("SELECT country || repo FROM office").fetchone()
     code, words = code_of(typed).removeprefix(code_of(office)).lstrip("/"), plain(typed).split()
     ranked = []
-    for seen in walk(store) if code else ():
+    for seen, boxes in housed(store) if code else ():
         own = code_of(seen.code)
         ways = (seen.number == number, own == code, own.endswith(f"/{code}"), number is None and has_words(seen.title, words))
         if True in ways:
-            ranked.append((ways.index(True), seen))
+            ranked.append((ways.index(True), seen, boxes))
     return sorted(ranked, key=lambda one: one[0])
 
 

@@ -1,8 +1,9 @@
 -- The lists for the staff. record-office-lists runs each SELECT over a copy of the office, and makes a page and a CSV file.
 --
 -- Before a SELECT stand its name, its title, what is said above it, and for which part of the staff it is, as in nginx's
--- desk-parts.conf (for who has all parts, unless it is told). Its columns are named as the page shows them. Names of readers
--- stand only in lists that are for finding a reader. To change a list, or to add one, change a copy of this file.
+-- desk-parts.conf (for who has all parts, unless it is told). What is drawn of it, for each year of its first column: the column
+-- of labels, and those of numbers. Its columns are named as the page shows them. Names of readers stand only in lists that are for
+-- finding a reader. To change a list, or to add one, change a copy of this file.
 --
 -- The tables of the office are: unit (draft is 0 or 1; it is closed while `until` is after today), element (k is 1 for the
 -- identifier and 2 for the title), container, housing (which unit names which container), reader, permit, orders (state is 1:
@@ -12,8 +13,9 @@
 -- unit at the top), its reference `code`, whether it or a unit above it is a draft, until when it or a unit above it is closed
 -- (0: open), and its `home`, the unit whose containers it lies in; above has each unit with itself and all units above it.
 -- `place.parent` is the unit right above. last_row has the first row of each unit in the last file of its source (draft and
--- parent are NULL if the file has no such column), and event what the desk's log has of seats, issues, returns, days and what was cancelled: `what`,
--- when (`time`, and `at` in seconds), by whom of the `staff`, and whether it was surely done (is_sure).
+-- parent are NULL if the file has no such column), and event what the desk's log has of seats, issues, returns, days and what was
+-- cancelled: `what`, when (`time`, and `at` in seconds), by whom of the `staff`, and whether it was surely done (is_sure). refused
+-- has how `many` orders were refused on a day, for which container and why, by the name in docs/RULES.md.
 -- The function day() writes a day as a date, and title() finds the title of a unit.
 
 -- list: drafts
@@ -238,6 +240,128 @@ SELECT substr(time, 1, 7) AS "Month", sum(what = 'seat') AS "Visits",
 FROM event WHERE is_sure AND what IN ('seat', 'issue')
 GROUP BY substr(time, 1, 7)
 ORDER BY 1 DESC;
+
+-- list: year-months
+-- title: A year by month
+-- part: counter
+-- draw: Month | Visits, Orders, Issues
+-- about: Seats that were taken and containers that were issued, by the clock of the front, and orders that were placed, by the
+--     office's day.
+WITH month (number, name) AS (
+    VALUES ('01', 'January'), ('02', 'February'), ('03', 'March'), ('04', 'April'), ('05', 'May'), ('06', 'June'), ('07', 'July'),
+        ('08', 'August'), ('09', 'September'), ('10', 'October'), ('11', 'November'), ('12', 'December')
+),
+found AS (
+    SELECT substr(time, 1, 7) AS month, what, count(*) AS many FROM event WHERE is_sure AND what IN ('seat', 'issue') GROUP BY 1, 2
+    UNION ALL
+    SELECT substr(day(day), 1, 7), 'order', count(*) FROM orders GROUP BY orders.day
+),
+counted AS (
+    SELECT substr(month, 1, 4) AS year, substr(month, 6) AS number, sum(many * (what = 'seat')) AS visits,
+        sum(many * (what = 'order')) AS placed, sum(many * (what = 'issue')) AS issues
+    FROM found GROUP BY month
+)
+SELECT year AS "Year", name AS "Month", coalesce(visits, 0) AS "Visits", coalesce(placed, 0) AS "Orders",
+    coalesce(issues, 0) AS "Issues"
+FROM (SELECT DISTINCT year FROM counted) CROSS JOIN month LEFT JOIN counted USING (year, number)
+ORDER BY year DESC, number;
+
+-- list: year-weekdays
+-- title: A year by weekday
+-- part: counter
+-- draw: Weekday | Visits, Orders, Issues
+-- about: As by month.
+WITH weekday (number, name) AS (
+    VALUES (1, 'Monday'), (2, 'Tuesday'), (3, 'Wednesday'), (4, 'Thursday'), (5, 'Friday'), (6, 'Saturday'), (7, 'Sunday')
+),
+found AS (
+    SELECT substr(time, 1, 10) AS day, what, count(*) AS many FROM event WHERE is_sure AND what IN ('seat', 'issue') GROUP BY 1, 2
+    UNION ALL
+    SELECT day(day), 'order', count(*) FROM orders GROUP BY orders.day
+),
+counted AS (
+    SELECT substr(day, 1, 4) AS year, (strftime('%w', day) + 6) % 7 + 1 AS number, sum(many * (what = 'seat')) AS visits,
+        sum(many * (what = 'order')) AS placed, sum(many * (what = 'issue')) AS issues
+    FROM found GROUP BY 1, 2
+)
+SELECT year AS "Year", name AS "Weekday", coalesce(visits, 0) AS "Visits", coalesce(placed, 0) AS "Orders",
+    coalesce(issues, 0) AS "Issues"
+FROM (SELECT DISTINCT year FROM counted) CROSS JOIN weekday LEFT JOIN counted USING (year, number)
+ORDER BY year DESC, number;
+
+-- list: year-waiting
+-- title: How long readers wait for a container
+-- part: counter
+-- draw: Waited | Orders
+-- about: Orders whose container was issued, by the year of the order: the days from the office's day of the order to the first
+--     issue to that ticket from then on, by the clock of the front. What was issued without the front's register is not known.
+WITH waited AS (
+    SELECT substr(day(orders.day), 1, 4) AS year, julianday((
+        SELECT min(substr(time, 1, 10)) FROM event WHERE what = 'issue' AND is_sure AND event.ticket = orders.ticket
+        AND event.container = orders.container AND substr(time, 1, 10) >= day(orders.day))) - julianday(day(orders.day)) AS days
+    FROM orders WHERE state IN (2, 3)
+),
+span (number, name, least, most) AS (
+    VALUES (1, 'issued on the same day', 0, 0), (2, 'on the next day', 1, 1), (3, '2 to 3 days later', 2, 3),
+        (4, '4 to 7 days later', 4, 7), (5, 'later', 8, 1e9), (6, 'not known', NULL, NULL)
+)
+SELECT year AS "Year", name AS "Waited", sum(coalesce(days BETWEEN least AND most, days IS least)) AS "Orders"
+FROM waited CROSS JOIN span
+GROUP BY year, number
+ORDER BY year DESC, number;
+
+-- list: year-boxes
+-- title: The boxes most asked for
+-- part: counter
+-- draw: Name | Orders, Cancelled
+-- about: The twenty containers of each year that were ordered most often, and how many of these orders were cancelled.
+WITH counted AS (
+    SELECT substr(day(day), 1, 4) AS year, container, count(*) AS many, sum(state = 4) AS cancelled FROM orders GROUP BY year, container
+),
+ranked AS (SELECT *, row_number() OVER (PARTITION BY year ORDER BY many DESC, container) AS rank FROM counted)
+SELECT year AS "Year", ranked.container AS "Container", container.name AS "Name", container.location AS "Location",
+    many AS "Orders", cancelled AS "Cancelled"
+FROM ranked JOIN container ON container.id = ranked.container
+WHERE rank <= 20
+ORDER BY year DESC, rank;
+
+-- list: year-refused
+-- title: Orders that were refused, and why
+-- part: counter
+-- draw: Why | Orders
+-- about: Of the readers' pages and the desk's, by the clock of the front; one that was sent again counts again. Orders of other
+--     programs are not known, nor are those from before the desk's service has kept them.
+WITH reason (why, name) AS (
+    VALUES ('UnknownTicket', 'no such ticket'), ('TicketExpired', 'ticket expired'), ('AlreadyOrdered', 'ordered already'),
+        ('NotAvailable', 'not open, or no such box'), ('DailyLimit', 'limit of the day'), ('Full', 'office full')
+)
+SELECT substr(day, 1, 4) AS "Year", coalesce(name, why) AS "Why", sum(many) AS "Orders"
+FROM refused LEFT JOIN reason USING (why)
+GROUP BY 1, why
+ORDER BY 1 DESC, 3 DESC, 2;
+
+-- list: year-archives
+-- title: A year by archive
+-- part: counter
+-- draw: Title | Orders, Issues, Cancelled, Refused
+-- about: A container counts for each archive whose units name it now, so the sum may be greater; containers that no unit names
+--     any more stand without an archive. Orders and those that were cancelled are by the office's day, issues and what was refused
+--     by the clock of the front.
+WITH archives AS (
+    SELECT DISTINCT housing.container, place.archive FROM housing JOIN place USING (unit)
+),
+found AS (
+    SELECT substr(day(day), 1, 4) AS year, container, 1 AS placed, 0 AS issued, state = 4 AS cancelled, 0 AS refused FROM orders
+    UNION ALL
+    SELECT substr(time, 1, 4), container, 0, 1, 0, 0 FROM event WHERE is_sure AND what = 'issue'
+    UNION ALL
+    SELECT substr(day, 1, 4), container, 0, 0, 0, many FROM refused
+)
+SELECT year AS "Year", coalesce(place.code, '') AS "Archive", coalesce(title(archives.archive), place.code, 'without an archive') AS "Title",
+    sum(placed) AS "Orders", sum(issued) AS "Issues", sum(cancelled) AS "Cancelled", sum(refused) AS "Refused"
+FROM found LEFT JOIN archives USING (container) LEFT JOIN place ON place.unit = archives.archive
+GROUP BY year, archives.archive
+ORDER BY year DESC, place.number IS NULL, place.number;
 
 -- list: differs
 -- title: Status or place differs from the last file

@@ -50,6 +50,14 @@ def erase(db, tickets):
     return names
 
 
+def forget_wanted(office, tickets):
+    """Erases from what the desk's service keeps which units the orders of these tickets were for."""
+    path = office.files / "ordered.db"
+    if tickets and path.exists():
+        office.as_owner("sqlite3", "-cmd", ".timeout 5000", path,
+                        f"DELETE FROM wanted WHERE ticket IN ({sql_of(*tickets)}); VACUUM")
+
+
 def sql_of(*values):
     """Texts, numbers and NULL as SQL has them."""
     texts = ("'" + str(value).replace("'", "''") + "'" for value in values)

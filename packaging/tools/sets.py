@@ -41,7 +41,7 @@ def kept_files(office, room):
     """What the desk's services keep, tables as copies in this folder."""
     for path in sorted(office.files.glob("[!.]*")) if office.files.is_dir() else ():
         if path.suffix == ".db":
-            office.as_owner("sqlite3", path, f".backup {room / path.name}")
+            office.as_owner("sqlite3", "-cmd", ".timeout 5000", path, f".backup {room / path.name}")
             yield room / path.name
         elif path.is_file() and not path.name.endswith(("-wal", "-shm", "-journal")):
             yield path
