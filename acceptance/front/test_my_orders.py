@@ -423,7 +423,6 @@ def test_the_printed_code_leads_a_phone_without_scripts_to_orders_and_back(brows
         phone.js("document.querySelector('form.command button').click()")
         phone.see("Ordered.")
         phone.see("It waits, and you are next.")
-        shot(phone, "my-orders-phone")
         measured = Measured(phone)
         measured.structure()
         measured.measure("1.4.3 contrast", "contrast")
