@@ -1,12 +1,13 @@
 -- What the marks of a path tell of its units.
 use Rattle.std.proofs.Common.{◌≡◌, Bool, true, false, not, ◌&&◌, List, [], ◌∷◌, ◌++◌, Option, refl, ap, ap₂, ◌∙◌}
 use Rattle.std.specs.Prelude.{map}
+use Rattle.catalogue_core.specs.ContainerContents.{is_some_there}
 use Rattle.public_queries.proofs.Common.{AreMarks, Mark, Unit, are_clear, ends_closed, head_of, is_clear, is_later}
 use Rattle.public_queries.proofs.Common.{is_open_on, is_unit_closed, mark_of, shows_last, shows_marked, without_number}
 use Rattle.public_queries.proofs.Common.{ℤ}
 
 -- the first mark is that of the first unit, and the others are those of the others
-first_and_others : (m : Mark) (ms : List Mark) (u : Unit) (us : List Unit) → AreMarks (u ∷ us) (m ∷ ms)
+pub first_and_others : (m : Mark) (ms : List Mark) (u : Unit) (us : List Unit) → AreMarks (u ∷ us) (m ∷ ms)
     → (without_number m ≡ mark_of u) × AreMarks us ms
 first_and_others m ms u us e =
     let both : without_number m ∷ map without_number ms ≡ mark_of u ∷ map mark_of us = e in
@@ -14,10 +15,10 @@ first_and_others m ms u us e =
     let rest : map without_number ms ≡ map mark_of us = cc in
     (here, rest)
 
-no_units : {X : Type 0} (m : Mark) (ms : List Mark) → AreMarks [] (m ∷ ms) → X
+pub no_units : {X : Type 0} (m : Mark) (ms : List Mark) → AreMarks [] (m ∷ ms) → X
 no_units m ms e = absurd (let k : without_number m ∷ map without_number ms ≡ [] = e in cc)
 
-no_marks : {X : Type 0} (u : Unit) (us : List Unit) → AreMarks (u ∷ us) [] → X
+pub no_marks : {X : Type 0} (u : Unit) (us : List Unit) → AreMarks (u ∷ us) [] → X
 no_marks u us e = absurd (let k : [] ≡ mark_of u ∷ map mark_of us = e in cc)
 
 draft_same : (m : Mark) (u : Unit) → without_number m ≡ mark_of u → m.draft ≡ u.draft
@@ -26,8 +27,11 @@ draft_same m u e = ap (λ (x : Mark). x.draft) e
 until_same : (m : Mark) (u : Unit) → without_number m ≡ mark_of u → m.until ≡ u.until
 until_same m u e = ap (λ (x : Mark). x.until) e
 
-id_same : (m : Mark) (u : Unit) → without_number m ≡ mark_of u → m.id ≡ u.id
+pub id_same : (m : Mark) (u : Unit) → without_number m ≡ mark_of u → m.id ≡ u.id
 id_same m u e = ap (λ (x : Mark). x.id) e
+
+pub boxed_same : (m : Mark) (u : Unit) → without_number m ≡ mark_of u → m.boxed ≡ is_some_there u.values.boxes
+boxed_same m u e = ap (λ (x : Mark). x.boxed) e
 
 -- their numbers
 pub ids_same : (units : List Unit) (marks : List Mark) → AreMarks units marks
