@@ -61,7 +61,8 @@ pub use Rattle.refinement.specs.Representation.{RepresentsState, office_of}
 pub use Rattle.public_queries.specs.FindingAids.{IsOf, KeepsUnits, Walked, along, kept_from_walk, public_units, seen_of}
 pub use Rattle.public_queries.specs.FindingAids.{seen_values, shown_at, with_numbers}
 pub use Rattle.public_queries.specs.HeadLines.{all_bare, are_open, bare_below, bare_body, head_alone, head_identifiers}
-pub use Rattle.public_queries.specs.HeadLines.{is_open_on, public_head, published_units, repository_of, shows_last}
+pub use Rattle.public_queries.specs.HeadLines.{is_open_on, is_published, public_head, published_units, repository_of}
+pub use Rattle.public_queries.specs.HeadLines.{shows_last}
 pub use Rattle.public_queries.specs.KnownPaths.{IsTellable, RepresentsKnown, RepresentsMarked, RepresentsShown}
 pub use Rattle.public_queries.specs.KnownPaths.{RepresentsStub, RepresentsWay}
 pub use Rattle.public_queries.specs.OwnRows.{is_closed_there, is_open_there, published_standing}
