@@ -1,13 +1,16 @@
 -- The containers that the units near a unit name, as they are read from rows.
 use Rattle.std.proofs.Common.{◌≡◌, ℕ, ◌+◌, ◌<◌, Bool, true, false, cond, List, [], ◌∷◌, ◌++◌, length, map, filter, take}
 use Rattle.std.proofs.Common.{get_or, nat_eq, refl, sym, ap, ap₂, subst, ◌∙◌}
+use Rattle.std.proofs.Math.Dec.{eqb}
+use Rattle.std.specs.List.{dedup, dedup_from}
 use Rattle.std.specs.Prelude.{◌&&◌, ◌||◌, IsPermutation, Option, Some, None}
 use Rattle.catalogue_core.proofs.DistinctLists.{all_so}
 use Rattle.catalogue_statements.specs.Representation.{RepresentsHousings, housing_places, numbered_containers}
 use Rattle.catalogue_statements.specs.Rows.{HousingRow, counted_from}
 use Rattle.catalogue_statements.specs.declared.row_types.Housing.{Housing}
 use Rattle.access.proofs.Common.{AllByRecursion, AreMarks, BoxKey, Empty, Forest, Mark, Node, Trees, Unit, all_append}
-use Rattle.access.proofs.Common.{all_split, all_true, any_agree, append-nil, box_number, branch, eqb_comm, has, has_id}
+use Rattle.access.proofs.Common.{all_split, all_true, any_agree, append-nil, box_number, branch, eqb-true, eqb_comm}
+use Rattle.access.proofs.Common.{has, has_id}
 use Rattle.access.proofs.Common.{is_one_of, last_or, list_any, list_any-IsPermutation, list_any-append, list_any-map}
 use Rattle.access.proofs.Common.{mark_of, names_container, names_some, near, nearest, nodes, option_map, option_to_list}
 use Rattle.access.proofs.Common.{or-false, path, says_so, take_more, tree, without_number}
@@ -28,9 +31,25 @@ any_counted : (p : BoxKey → Bool) (k : ℕ) (boxes : List BoxKey)
 any_counted p k [] = refl
 any_counted p k (b ∷ boxes) = ap (λ x. p b || x) (any_counted p (k + 1) boxes)
 
-pub all_pass : {X : Type 0} (xs : List X) → xs ≡ filter (λ _. true) xs
-all_pass [] = refl
-all_pass (x ∷ xs) = ap (λ l. x ∷ l) (all_pass xs)
+twice : (a b : Bool) → (a || b) ≡ (a || (a || b))
+twice true b = refl
+twice false b = refl
+
+once_from : (p : ℕ → Bool) (n : ℕ) (ns : List ℕ) → list_any p (dedup_from eqb n ns) ≡ (p n || list_any p ns)
+once_from p n [] = refl
+once_from p n (m ∷ ms) = at (eqb m n) refl (once_from p n ms) (once_from p m ms)
+  where
+    at : (b : Bool) → eqb m n ≡ b → list_any p (dedup_from eqb n ms) ≡ (p n || list_any p ms)
+        → list_any p (dedup_from eqb m ms) ≡ (p m || list_any p ms)
+        → list_any p (cond b (dedup_from eqb n ms) (n ∷ dedup_from eqb m ms)) ≡ (p n || (p m || list_any p ms))
+    at true same of_n of_m =
+        of_n ∙ twice (p n) (list_any p ms) ∙ ap (λ (k : ℕ). p n || (p k || list_any p ms)) (sym (eqb-true m n same))
+    at false other of_n of_m = ap (λ b. p n || b) of_m
+
+-- each number once
+pub any_once : (p : ℕ → Bool) (ns : List ℕ) → list_any p (dedup eqb ns) ≡ list_any p ns
+any_once p [] = refl
+any_once p (n ∷ ns) = once_from p n ns
 
 -- ---- the rows of a unit, and of one unit more
 

@@ -13,6 +13,7 @@ use Rattle.known_units.specs.UnitChanges.{changed_by}
 use Rattle.known_units.specs.declared.changes.UnitChange.{UnitChange}
 use Rattle.catalogue_statements.specs.Rows.{HousingRow}
 use Rattle.desk_core.specs.declared.refusal.Refusal.{Refusal}
+pub use Rattle.desk_store.specs.Holdings.{is_one_of}
 use Rattle.desk_store.specs.declared.container_orders.ContainerOrder.{ContainerOrder}
 use Rattle.office_core.specs.Rules.{Reply, gate, is_kept_from_holder, lowest_withheld}
 use Rattle.office_core.specs.State.{State, opens}
@@ -66,19 +67,13 @@ pub record IsAfter (change : UnitChange) (u : ℕ) (given : Option (List Mark)) 
 
 -- ---- what is read for the gate
 
-abbrev pub is_one_of : ℕ → List ℕ → Bool
-is_one_of n ns = list_any (λ m. nat_eq m n) ns
-
 -- The first of these loans that is not open to its reader is also the first such loan of all: no other need be checked.
 abbrev pub AreEnough : List ContainerOrder → State → Type 0
 AreEnough loans s = lowest_withheld s ≡ first_closed s loans
 
--- `asked` are the loans whose containers pass some test. Every container in which something of the branch lies passes
--- that test.
-pub record AreAsked (u : ℕ) (s : State) (loans asked : List ContainerOrder) : Type 0 where
-  pub test : ℕ → Bool
-  pub near : (c : ℕ) → test c ≡ false → is_named_near u s c ≡ false
-  pub are : asked ≡ filter (λ (loan : ContainerOrder). test loan.container) loans
+-- `asked` are the loans of the containers in which something of the branch lies, and no others
+abbrev pub AreAsked : ℕ → State → List ContainerOrder → List ContainerOrder → Type 0
+AreAsked u s loans asked = asked ≡ filter (λ (loan : ContainerOrder). is_named_near u s loan.container) loans
 
 -- these are the containers in which something of the branch lies
 abbrev pub AreNear : ℕ → State → List ℕ → Type 0

@@ -1,22 +1,21 @@
 //! After a change within a branch of units, nothing that is out may be withheld from the reader who has it. Such a
 //! change can only withhold containers in which a unit of the branch lies, so only these are checked.
 
-ghost use Rattle.std.specs.Prelude.{◌≡◌, IfOk, filter, option_copied};
-ghost use Rattle.std.specs.List.Sorted.{IsNonDecreasing};
+ghost use Rattle.std.specs.Prelude.{◌≡◌, ◌≤◌, IfOk, IsSome, length, option_copied};
 ghost use Rattle.desk_store.specs.Holdings.{issued_of};
 ghost use Rattle.state_encoding.specs.OfficeRows.{tables as tables_of};
 ghost use Rattle.office_tables.specs.Calls.{Answers};
 ghost use Rattle.office_tables.specs.Premises.{◌within◌gives◌};
 ghost use Rattle.catalogue_core.specs.CatalogueMerge.{Catalogue};
 ghost use Rattle.known_units.specs.UnitChanges.{changed_by};
-ghost use Rattle.access.specs.Gate.{AreAsked, AreEnough, AreNear, IsAfter, OthersAreOpen, gate_reply, is_one_of};
+ghost use Rattle.access.specs.Gate.{AreAsked, AreEnough, AreNear, IsAfter, OthersAreOpen, gate_reply};
 ghost use Rattle.known_units.specs.KnownUnits.{KnowsIf, TellOf};
 ghost use Rattle.refinement.specs.AccessConditions.{CanBeJudged, RepresentsWhole};
 
 use crate::gate::first_closed;
-use crate::housed_units::{containers_around, containers_of_each, is_among};
+use crate::housed_units::{containers_around, containers_of_each};
 use catalogue_store::Places;
-use desk_store::{ContainerOrder, issued};
+use desk_store::{ContainerOrder, is_some_out, issued_among};
 use isad_core::{Day, Number};
 use known_forest::KnownForest;
 use known_units::{UnitChange, with_change};
@@ -41,25 +40,6 @@ fn containers_near<P: Places, S: Alter>(
     Ok(containers)
 }
 
-/// The loans whose containers are among these. The containers must be in ascending order.
-fn loans_of(
-    alloc: Global,
-    loans: &[ContainerOrder],
-    ascending: &[Number],
-) -> Result<Vec<ContainerOrder>, AllocError>
-    requires rise { IsNonDecreasing ascending.now }
-    ensures { IfOk result (λ v. v.items ≡ filter (λ loan. is_one_of loan.container ascending.now) loans.now) }
-{
-    let mut found = Vec::new(alloc);
-    for loan in loans {
-        let loan = *loan;
-        if is_among(ascending, loan.container) {
-            found.push(loan)?;
-        }
-    }
-    Ok(found)
-}
-
 /// The loans that must be checked after a change near the unit, by number of the container. A loan is a container that
 /// is out, with its order. They are the loans of containers in which the unit or one below it lies.
 pub fn loans_near<P: Places, S: Alter>(
@@ -70,13 +50,14 @@ pub fn loans_near<P: Places, S: Alter>(
     ensures answers { Answers S.Store (RepresentsWhole P.represents P.version) tables.old tables.new result
         within CanBeJudged gives λ _ s found. AreAsked unit s (issued_of (tables_of P.version s).desk) found.items }
 {
-    let loans = issued(alloc, tables)?;
-    if loans.is_empty() {
-        return Ok(loans);
+    if !is_some_out(alloc, tables)? {
+        return Ok(Vec::new(alloc));
     }
     let mut containers = containers_near(alloc, tables, unit)?;
     containers.sort_unstable();
-    Ok(loans_of(alloc, &loans, &containers)?)
+    containers.dedup();
+    let loans = issued_among(alloc, tables, &containers)?;
+    Ok(loans)
 }
 
 /// The outcome of a change that the tables already show: `done`, or the refusal `WithReader` with the container of the
@@ -131,8 +112,9 @@ fn marks_after(
     unit: Number,
     change: UnitChange,
 ) -> Result<Option<KnownForest>, AllocError>
-    ensures { IfOk result (λ after. (c : Catalogue) → KnowsIf c (option_copied known.entry)
+    ensures told { IfOk result (λ after. (c : Catalogue) → KnowsIf c (option_copied known.entry)
         → KnowsIf (changed_by change unit c) after) }
+    ensures given { IsSome (option_copied known.entry) → 1 ≤ length loans.now → IfOk result IsSome }
 {
     let Some(known) = known else {
         return Ok(None);

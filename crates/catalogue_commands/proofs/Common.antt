@@ -39,5 +39,5 @@ pub use Rattle.access.proofs.OpenElsewhere.{none_left, others_open, stays_change
 pub use Rattle.access.proofs.OpenElsewhere.{still_open}
 pub use Rattle.access.proofs.Passing.{IsChange, passed_freely, passed_where}
 pub use Rattle.known_units.specs.KnownUnits.{TellOf}
-pub use Rattle.access.specs.Gate.{AreAsked, AreEnough, IsAfter, OthersAreOpen}
+pub use Rattle.access.specs.Gate.{AreAsked, AreEnough, IsAfter, OthersAreOpen, is_named_near}
 pub use Rattle.catalogue_commands.specs.UnitMove.{stands_within}

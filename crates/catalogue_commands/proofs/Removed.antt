@@ -20,8 +20,8 @@ use Rattle.catalogue_commands.proofs.Common.{AllByRecursion, AreAsked, AreEnough
 use Rattle.catalogue_commands.proofs.Common.{HasCleanDisk, HasLegibleTexts, IsChange, IsLegibleCatalogue, IsSomeDay}
 use Rattle.catalogue_commands.proofs.Common.{IsSoundOffice, OfficeRow, Permit, Represents, State, Trees, Unit, Version}
 use Rattle.catalogue_commands.proofs.Common.{all_filtered, all_so, branch, branch-each, cut, cut_good, distinct_ids}
-use Rattle.catalogue_commands.proofs.Common.{each, filter, has_id, has_unit, is_permitted, issued_of, judged_with}
-use Rattle.catalogue_commands.proofs.Common.{length-map, list_any, nodes, office_of, permit_rows, removed}
+use Rattle.catalogue_commands.proofs.Common.{each, filter, has_id, has_unit, is_named_near, is_permitted, issued_of}
+use Rattle.catalogue_commands.proofs.Common.{judged_with, length-map, list_any, nodes, office_of, permit_rows, removed}
 use Rattle.catalogue_commands.proofs.Common.{stays_permitted, still_open, tables}
 use Rattle.catalogue_commands.proofs.PermitsLeft.{permits_left}
 
@@ -93,11 +93,11 @@ module _ (u : ℕ) where
       → AreEnough loans (removed s u)
   removes_near version loans s sound there asked =
       let rest = cut (has_id u) s.catalogue.forest in
-      enough_of version (removed s u) (judged_after s sound there) asked.test
+      enough_of version (removed s u) (judged_after s sound there) (is_named_near u s)
       (λ c out. still_open s sound rest (left s) c (λ t box is was.
       let permitted = is_permitted s.day (s.permits t) in
       let permitted_now = is_permitted s.day (left s t) in
-      sym (stays_permitted s sound u c (asked.near c out) box is permitted permitted_now
+      sym (stays_permitted s sound u c out box is permitted permitted_now
       (all_so (λ (unit : Unit). has_unit rest unit.id ≡ true) (IsAlike permitted permitted_now) (λ unit there. sym (permitted_left (has_unit rest) s.day (s.permits t) unit.id there)) (nodes rest)
       (each_there (nodes rest) (nodes rest) (λ v h. h)))) ∙ was))
-      loans asked.are
+      loans asked

@@ -27,4 +27,4 @@ pub use office_tables::{StoreFault, begin, commit, create_index, create_table, r
 pub use presence::is_unit;
 pub use status_and_closure::{set_closure, set_status};
 pub use tree_places::{Attached, LinkPlaces, Places, marks_of};
-pub use unit_values::{UnitValues, values};
+pub use unit_values::{UnitContainers, UnitValues, containers, level, texts, values};

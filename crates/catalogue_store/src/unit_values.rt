@@ -1,7 +1,7 @@
 //! The values of a unit, read from its rows.
 
-ghost use Rattle.std.specs.Prelude.{◌≡◌, ◌≢◌, ◌<◌, ℕ, List, length, map, true, IsPermutation, IsOk, IfOk};
-ghost use Rattle.std.specs.Prelude.{IfSome, IfNone, IfErr, IsUtf8};
+ghost use Rattle.std.specs.Prelude.{◌≡◌, ◌≢◌, ◌<◌, ℕ, List, find, length, map, option_map, true, IsPermutation};
+ghost use Rattle.std.specs.Prelude.{IsOk, IfOk, IfSome, IfNone, IfErr, IsUtf8};
 ghost use Rattle.std.specs.List.{AllByRecursion, list_any, list_all};
 ghost use Rattle.sqlite.specs.Held.{state};
 ghost use Rattle.sqlite.specs.State.{HasCleanDisk};
@@ -9,9 +9,11 @@ ghost use Rattle.isad_core.specs.Boxes.{is_same_box};
 ghost use Rattle.isad_core.specs.LegibleValues.{IsLegibleBox};
 ghost use Rattle.isad_core.specs.declared.values.BoxKey.{BoxKey};
 ghost use Rattle.isad_core.specs.declared.values.Values.{«Values» as Description};
+ghost use Rattle.tree_core.specs.Forest.{nodes};
 ghost use Rattle.catalogue_core.specs.Bounds.{IsKept};
 ghost use Rattle.catalogue_core.specs.Descriptions.{KnowsItsContainers};
 ghost use Rattle.catalogue_core.specs.CatalogueMerge.{box_number};
+ghost use Rattle.catalogue_core.specs.Units.{«Unit» as Described, has_id};
 ghost use Rattle.office_tables.specs.Calls.{StoreAnswers};
 ghost use Rattle.office_tables.specs.Premises.{◌within◌and◌gives◌, ◌within◌gives◌};
 ghost use Rattle.office_tables.specs.RowNumbers.{HoldsNumbered};
@@ -24,7 +26,7 @@ ghost use Rattle.catalogue_statements.specs.Representation.{housing_places};
 ghost use Rattle.catalogue_statements.specs.Values.{RepresentsValues, TellsTexts};
 ghost use Rattle.catalogue_statements.specs.declared.row_types.Element.{Element};
 ghost use Rattle.catalogue_statements.specs.declared.row_types.Housing.{Housing};
-ghost use Rattle.catalogue_store.specs.UnitValues.{values_of_unit};
+ghost use Rattle.catalogue_store.specs.UnitValues.{containers_of_unit, values_of_unit, values_or_none};
 
 use catalogue_statements::containers::{find_container, housings_of};
 use catalogue_statements::elements::elements_of;
@@ -41,6 +43,13 @@ use std::array;
 pub struct UnitValues {
     pub values: Values,
     pub containers: List<Number>,
+}
+
+/// The containers of a unit, in the unit's order, and their numbers in the same order.
+#[derive(Debug, PartialEq, Drop)]
+pub struct UnitContainers {
+    pub boxes: List<BoxKey>,
+    pub numbers: List<Number>,
 }
 
 /// The place among the texts of the element with this number. The numbers are 1 to 26 without 4, the level. Any other
@@ -163,6 +172,48 @@ fn boxes_of<P: Versioned, S: Alter>(
     Ok(keys)
 }
 
+/// The level of the unit with this number, or none if there is no such unit.
+pub fn level<P: Versioned, S: Alter>(
+    alloc: Global,
+    tables: &mut Tables<P, S>,
+    unit: Number,
+) -> Result<Option<Text>, StoreFault>
+    ensures answers { StoreAnswers S.Store RepresentsValues tables.old tables.new result
+        within IsKept
+        gives λ _ c level. level ≡ option_map (λ (u : Described). u.values.level) (find (has_id unit) (nodes c.forest)) }
+{
+    let found = find_level(alloc, tables, unit)?;
+    Ok(found)
+}
+
+/// The texts of the unit with this number, each at its place, or no text at all if there is no such unit. Each unit must
+/// have a place for each of the 25 texts.
+pub fn texts<P: Versioned, S: Alter>(
+    alloc: Global,
+    tables: &mut Tables<P, S>,
+    unit: Number,
+) -> Result<[Option<Text>; 25], StoreFault>
+    ensures answers { StoreAnswers S.Store RepresentsValues tables.old tables.new result
+        within IsKept gives λ _ c texts. texts ≡ (values_or_none unit c).texts }
+{
+    texts_of(alloc, tables, unit)
+}
+
+/// The containers of the unit with this number, or none if there is no such unit. If the catalogue does not know the
+/// containers of all its units, it may fail with `Schema`.
+pub fn containers<P: Versioned, S: Alter>(
+    alloc: Global,
+    tables: &mut Tables<P, S>,
+    unit: Number,
+) -> Result<UnitContainers, StoreFault>
+    ensures answers { StoreAnswers S.Store RepresentsValues tables.old tables.new result
+        within IsKept and KnowsItsContainers gives λ _ c found. found ≡ containers_of_unit unit c }
+{
+    let numbers = containers_of(alloc, tables, unit)?;
+    let boxes = boxes_of(alloc, tables, numbers.as_slice())?;
+    Ok(UnitContainers { boxes, numbers })
+}
+
 /// The values of the unit with this number, and the numbers of its containers in their order; none if there is no such
 /// unit. Each unit must have a place for each of the 25 texts. If the catalogue does not know the containers of all its
 /// units, it may fail with `Schema`.
@@ -174,18 +225,17 @@ pub fn values<P: Versioned, S: Alter>(
     ensures answers { StoreAnswers S.Store RepresentsValues tables.old tables.new result
         within IsKept and KnowsItsContainers gives λ _ c found. found ≡ values_of_unit unit c }
 {
-    let Some(level) = find_level(alloc, tables, unit)? else {
+    let Some(level) = level(alloc, tables, unit)? else {
         return Ok(None);
     };
-    let texts = texts_of(alloc, tables, unit)?;
-    let containers = containers_of(alloc, tables, unit)?;
-    let boxes = boxes_of(alloc, tables, containers.as_slice())?;
+    let texts = texts(alloc, tables, unit)?;
+    let housed = containers(alloc, tables, unit)?;
     Ok(Some(UnitValues {
         values: Values {
             level,
             texts,
-            boxes,
+            boxes: housed.boxes,
         },
-        containers,
+        containers: housed.numbers,
     }))
 }

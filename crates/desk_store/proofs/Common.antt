@@ -90,8 +90,9 @@ pub use Rattle.office_tables.specs.Step.{Continues, Goes, HasRows, Holds, IsAbor
 pub use Rattle.office_tables.specs.Step.{OnlyTouches, PutsRow, Spares}
 pub use Rattle.office_tables.specs.Versions.{First, Second, Version}
 pub use Rattle.office_tables.specs.declared.fault.StoreFault.{StoreFault}
-pub use Rattle.desk_store.specs.Holdings.{at_desk_of, candidates_of, firsts_of, is_first_waiting, is_on_shelf}
-pub use Rattle.desk_store.specs.Holdings.{issued_by, loan_by, on_shelf, put_down, waits_for, with_place}
+pub use Rattle.desk_store.specs.Holdings.{at_desk_of, candidates_of, firsts_of, is_first_waiting, is_held, is_on_shelf}
+pub use Rattle.desk_store.specs.Holdings.{is_one_of, issued_among, issued_by, line_of, lines_among, loan_by, loans_in}
+pub use Rattle.desk_store.specs.Holdings.{on_shelf, put_down, waits_for, with_place}
 pub use Rattle.desk_store.specs.Orders.{IsAt, IsNextOrder, IsThere, holding_of, order_state_number, order_with}
 pub use Rattle.desk_store.specs.Orders.{queue_of, with_order, with_order_state}
 pub use Rattle.desk_store.specs.Permits.{HasUnitRow, MayHave, by_permitted_unit, desk_with_permit, desk_without_permit}

@@ -17,6 +17,8 @@ pub mod RunRows
 pub mod RunCalls
 pub mod LoanRows
 pub mod LoanCalls
+pub mod FirstOut
+pub mod ChosenLines
 pub mod OpeningRows
 pub mod OpeningCalls
 pub mod WaitingRows

@@ -6,8 +6,8 @@ use Rattle.sqlite_tied.specs.Compute.{everything}
 use Rattle.desk_store.proofs.Common.{Binary, Command, Compare, Eq, Finds, HasCause, HoldingLine, HoldingRow, Holds, Int}
 use Rattle.desk_store.proofs.Common.{IsOrdered, IsTotalOrder, IsUnlimited, Key, Means, Misses, OrderRow, Row, Select}
 use Rattle.desk_store.proofs.Common.{State, StoreFault, Term, Version, all_of, ascending, asking, by_one_int, col}
-use Rattle.desk_store.proofs.Common.{holding, holding_cells, int_cmp, int_cmp_total, le_refl, on_total, only, op2}
-use Rattle.desk_store.proofs.Common.{option_map, or_null, order_cells, orders, same_number, schema, select_faults}
+use Rattle.desk_store.proofs.Common.{holding, holding_cells, int_cmp, int_cmp_total, le_refl, line_of, on_total, only}
+use Rattle.desk_store.proofs.Common.{op2, option_map, or_null, order_cells, orders, same_number, schema, select_faults}
 use Rattle.desk_store.proofs.Common.{select_finds, ⊤}
 use Rattle.desk_store.proofs.CardRows.{by_order}
 
@@ -21,9 +21,6 @@ by_container a b = int_cmp (pos a.container) (pos b.container)
 
 pub by_container_total : IsTotalOrder by_container
 by_container_total = on_total (λ (h : HoldingRow). pos h.container) int_cmp_total
-
-abbrev pub line_of : HoldingRow → HoldingLine
-line_of h = record { container = h.container; held_by = h.held_by }
 
 abbrev pub line_cells : HoldingLine → Row
 line_cells h = Int (pos h.container) ∷ or_null Int (option_map pos h.held_by) ∷ []

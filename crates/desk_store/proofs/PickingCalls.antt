@@ -6,7 +6,7 @@ use Rattle.desk_store.proofs.Common.{AreByNumber, AreCounted, ContainerOrder, De
 use Rattle.desk_store.proofs.Common.{OrderRow, Out, Place, Shelf, ascending-filter, ascending-map, candidates_of}
 use Rattle.desk_store.proofs.Common.{counted_rises, filter-map, firsts_of, int_cmp, is_earliest, is_first_waiting}
 use Rattle.desk_store.proofs.Common.{is_on_shelf, list_any, nat_lt, on_shelf, waits_for}
-use Rattle.desk_store.proofs.LoanRows.{line_of}
+use Rattle.desk_store.proofs.Common.{line_of}
 use Rattle.desk_store.proofs.PickingRows.{first_of}
 
 abbrev pub waits : OrderRow → Bool

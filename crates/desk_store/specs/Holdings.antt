@@ -1,12 +1,13 @@
 -- Where containers are, and which of them may move.
 use Rattle.std.specs.Prelude.{ℕ, pos, Bool, not, ◌&&◌, nat_eq, nat_lt, List, map, filter, filter_map, find, Option}
-use Rattle.std.specs.Prelude.{Some, None, option_map, option_and_then}
+use Rattle.std.specs.Prelude.{Some, None, is_some, option_map, option_and_then}
 use Rattle.std.specs.List.{list_any}
 use Rattle.desk_core.specs.declared.reader.Place.{Place}
 use Rattle.desk_core.specs.declared.reader.Place.TheVariants.{Shelf, Desk as AtTheDesk, Out}
 use Rattle.desk_core.specs.DeskRows.{Desk, HoldingRow, OrderRow}
 use Rattle.office_tables.specs.OrderedInsertion.{put_by}
 use Rattle.desk_store.specs.declared.container_orders.ContainerOrder.{ContainerOrder}
+use Rattle.desk_store.specs.declared.loans.HoldingLine.{HoldingLine}
 
 -- ---- a container goes to another place
 
@@ -40,6 +41,30 @@ issued_by orders h = loan_by orders h.container h.held_by
 -- the containers that are with readers, by number, each with its order and ticket
 abbrev pub issued_of : Desk → List ContainerOrder
 issued_of d = filter_map (issued_by d.orders) d.holdings
+
+-- the container is out with an order, whether that exists or not
+abbrev pub is_held : HoldingRow → Bool
+is_held h = is_some h.held_by
+
+-- ---- some of the containers that are with readers
+
+abbrev pub is_one_of : ℕ → List ℕ → Bool
+is_one_of n ns = list_any (λ m. nat_eq m n) ns
+
+abbrev pub line_of : HoldingRow → HoldingLine
+line_of h = record { container = h.container; held_by = h.held_by }
+
+-- the lines of those of these containers that are not on the shelf
+abbrev pub lines_among : List ℕ → Desk → List HoldingLine
+lines_among containers d = map line_of (filter (λ h. is_one_of h.container containers) d.holdings)
+
+-- the loans of the containers in these lines
+abbrev pub loans_in : Desk → List HoldingLine → List ContainerOrder
+loans_in d lines = filter_map (λ (line : HoldingLine). loan_by d.orders line.container line.held_by) lines
+
+-- those of these containers that are with readers
+abbrev pub issued_among : List ℕ → Desk → List ContainerOrder
+issued_among containers d = filter (λ (loan : ContainerOrder). is_one_of loan.container containers) (issued_of d)
 
 -- ---- containers that may move
 

@@ -4,6 +4,7 @@
 #![tactic(auto)]
 
 mod blank;
+mod chosen_loans;
 mod container_labels;
 mod container_orders;
 mod desk_containers;
@@ -26,10 +27,11 @@ mod ticket_holders;
 mod waiting_orders;
 
 pub use blank::is_blank;
+pub use chosen_loans::issued_among;
 pub use container_orders::ContainerOrder;
 pub use desk_containers::at_desk;
 pub use holdings::set_place;
-pub use loans::issued;
+pub use loans::{is_some_out, issued};
 pub use office_day::open_day;
 pub use order_writes::{append_order, end_order};
 pub use orders::{OrderState, PlacedOrder, WaitingOrder, order};

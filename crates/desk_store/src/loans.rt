@@ -1,13 +1,14 @@
 //! Containers that are with readers.
 
-ghost use Rattle.std.specs.Prelude.{◌≡◌, map, ⊤};
+ghost use Rattle.std.specs.Prelude.{◌≡◌, find, map, option_map, ⊤};
+ghost use Rattle.std.specs.List.{list_any};
 ghost use Rattle.desk_core.specs.DeskRows.{HoldingRow};
 ghost use Rattle.office_tables.specs.Calls.{StoreAnswers};
 ghost use Rattle.office_tables.specs.Premises.{◌when◌gives◌, ◌within◌gives◌};
 ghost use Rattle.office_tables.specs.Schema as schema;
 ghost use Rattle.office_tables.specs.Step.{Holds};
 ghost use Rattle.office_tables.specs.TableStatements.{LooksUp};
-ghost use Rattle.desk_store.specs.Holdings.{issued_of, loan_by, ticket_of};
+ghost use Rattle.desk_store.specs.Holdings.{is_held, issued_of, loan_by, loans_in, ticket_of};
 ghost use Rattle.desk_store.specs.Rows.{holding_cells, order_cells};
 ghost use Rattle.desk_store.specs.Representation.{RepresentsDeskAlone, IsLegible};
 ghost use Rattle.office_tables.specs.RowNumbers.{AreByNumber, AreCounted};
@@ -116,6 +117,24 @@ fn loan_of<P: Versioned, S: Alter>(
     }))
 }
 
+/// The loans of the containers in these lines, in the same order.
+pub(crate) fn loans_of<P: Versioned, S: Alter>(
+    alloc: Global,
+    tables: &mut Tables<P, S>,
+    lines: &[HoldingLine],
+) -> Result<Vec<ContainerOrder>, StoreFault>
+    ensures answers { StoreAnswers S.Store RepresentsDeskAlone tables.old tables.new result
+        within IsLegible gives λ _ d loans. loans.items ≡ loans_in d lines.now }
+{
+    let mut loans = Vec::new(alloc);
+    for line in lines {
+        if let Some(loan) = loan_of(alloc, tables, *line)? {
+            loans.push(loan)?;
+        }
+    }
+    Ok(loans)
+}
+
 /// The containers that are with readers, in ascending order of their numbers, each with the order that it is out with
 /// and the ticket that placed it. A row that names no order, or one that does not exist, is left out.
 pub fn issued<P: Versioned, S: Alter>(
@@ -126,11 +145,35 @@ pub fn issued<P: Versioned, S: Alter>(
         within IsLegible gives λ _ d all. all.items ≡ issued_of d }
 {
     let lines = holding_lines(alloc, tables)?;
-    let mut loans = Vec::new(alloc);
-    for line in &lines {
-        if let Some(loan) = loan_of(alloc, tables, *line)? {
-            loans.push(loan)?;
-        }
-    }
+    let loans = loans_of(alloc, tables, &lines)?;
     Ok(loans)
+}
+
+/// The lowest container that is out with an order, or none. The rows behind its own are not read.
+fn first_out<P: Versioned, S: Alter>(
+    alloc: Global,
+    tables: &mut Tables<P, S>,
+) -> Result<Option<Number>, StoreFault>
+    ensures { LooksUp S.Store (Holds schema.holding holding_cells) tables.old tables.new result
+        when AreByNumber (λ h. h.container)
+        gives λ xs first. first ≡ option_map (λ (h : HoldingRow). h.container) (find is_held xs) }
+{
+    find_one(
+        alloc,
+        tables,
+        "SELECT container FROM holding WHERE held_by IS NOT NULL ORDER BY container LIMIT 1",
+        &[],
+    )
+}
+
+/// Whether a container is out with an order. Rows are read only up to the first such container.
+pub fn is_some_out<P: Versioned, S: Alter>(
+    alloc: Global,
+    tables: &mut Tables<P, S>,
+) -> Result<bool, StoreFault>
+    ensures answers { StoreAnswers S.Store RepresentsDeskAlone tables.old tables.new result
+        within IsLegible gives λ _ d yes. yes ≡ list_any is_held d.holdings }
+{
+    let first = first_out(alloc, tables)?;
+    Ok(first.is_some())
 }

@@ -35,11 +35,11 @@ pub struct ContainerQueue {
 
 /// The place of a container, as its row shows it.
 #[derive(Debug, Clone, Copy, PartialEq, Eq, Drop)]
-struct PlaceEntry {
+pub(crate) struct PlaceEntry {
     /// 1 at the desk, 2 out.
     place: u64,
     /// The order that it is out with, or none.
-    held_by: Option<Number>,
+    pub held_by: Option<Number>,
 }
 
 impl FromRow for PlaceEntry {
@@ -77,7 +77,7 @@ impl PlaceEntry {
 }
 
 /// The row with the place of a container, or none. It is found by the container's number.
-fn find_place<P: Versioned, S: Alter>(
+pub(crate) fn find_place<P: Versioned, S: Alter>(
     alloc: Global,
     tables: &mut Tables<P, S>,
     container: Number,

@@ -1,2 +1,2 @@
-mod Marked
+pub mod Marked
 mod Changed

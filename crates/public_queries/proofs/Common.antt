@@ -61,12 +61,14 @@ pub use Rattle.refinement.specs.Representation.{RepresentsState, office_of}
 pub use Rattle.public_queries.specs.FindingAids.{IsOf, KeepsUnits, Walked, along, kept_from_walk, public_units, seen_of}
 pub use Rattle.public_queries.specs.FindingAids.{seen_values, shown_at, with_numbers}
 pub use Rattle.public_queries.specs.HeadLines.{all_bare, are_open, bare_below, bare_body, head_alone, head_identifiers}
-pub use Rattle.public_queries.specs.HeadLines.{is_open_on, public_head, published_units, repository_of, shows_last}
-pub use Rattle.public_queries.specs.KnownPaths.{AreNumbersOf, IsTellable, RepresentsKnown, RepresentsMarked}
-pub use Rattle.public_queries.specs.KnownPaths.{RepresentsShown, RepresentsStub, RepresentsWay}
+pub use Rattle.public_queries.specs.HeadLines.{is_open_on, is_published, public_head, published_units, repository_of}
+pub use Rattle.public_queries.specs.HeadLines.{shows_last}
+pub use Rattle.public_queries.specs.KnownPaths.{IsTellable, RepresentsKnown, RepresentsMarked, RepresentsShown}
+pub use Rattle.public_queries.specs.KnownPaths.{RepresentsStub, RepresentsWay}
 pub use Rattle.public_queries.specs.OwnRows.{is_closed_there, is_open_there, published_standing}
 pub use Rattle.public_queries.specs.PageLines.{box_lines, closed_page, housed_lines, lines_or, nearest_lines}
 pub use Rattle.public_queries.specs.PageLines.{page_of_units, told_head, told_text}
+pub use Rattle.public_queries.specs.PageNeeds.{AreMarksOf, IsMarked, all_needed, values_needed}
 pub use Rattle.public_queries.specs.PathMarks.{are_clear, ends_closed, is_clear, shows_marked}
 pub use Rattle.public_queries.specs.PathValues.{coded_of, coded_way, identifiers_of, unit_values}
 pub use Rattle.public_queries.specs.declared.path_values.OnPath.{OnPath}

@@ -15,6 +15,7 @@ pub mod FondsPrinted
 pub mod PagePrinted
 pub mod OwnRows
 pub mod MarkedPaths
+pub mod PageNeeds
 pub mod PublicHeads
 pub mod ToldPages
 pub mod PageAnswers

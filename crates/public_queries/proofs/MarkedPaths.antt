@@ -1,12 +1,16 @@
 -- What the marks of a path tell of its units.
-use Rattle.std.proofs.Common.{◌≡◌, Bool, true, false, not, ◌&&◌, List, [], ◌∷◌, ◌++◌, Option, refl, ap, ap₂, ◌∙◌}
+use Rattle.std.proofs.Common.{◌≡◌, ℕ, Bool, true, false, not, cond, ◌&&◌, List, [], ◌∷◌, ◌++◌, Option, Some, None}
+use Rattle.std.proofs.Common.{nat_eq, refl, sym, ap, ap₂, ◌∙◌}
+use Rattle.std.specs.List.{find}
 use Rattle.std.specs.Prelude.{map}
-use Rattle.public_queries.proofs.Common.{AreMarks, Mark, Unit, are_clear, ends_closed, head_of, is_clear, is_later}
-use Rattle.public_queries.proofs.Common.{is_open_on, is_unit_closed, mark_of, shows_last, shows_marked, without_number}
-use Rattle.public_queries.proofs.Common.{ℤ}
+use Rattle.known_forest.specs.KnownMarks.{has_id as has_mark}
+use Rattle.catalogue_core.specs.ContainerContents.{is_some_there}
+use Rattle.public_queries.proofs.Common.{AreMarks, AreWalkMarks, Forest, Mark, Unit, are_clear, ends_closed, has_id}
+use Rattle.public_queries.proofs.Common.{head_of, is_clear, is_later, is_open_on, is_published, is_unit_closed, mark_of}
+use Rattle.public_queries.proofs.Common.{nodes, nodes-each, shows_last, shows_marked, without_number, ℤ}
 
 -- the first mark is that of the first unit, and the others are those of the others
-first_and_others : (m : Mark) (ms : List Mark) (u : Unit) (us : List Unit) → AreMarks (u ∷ us) (m ∷ ms)
+pub first_and_others : (m : Mark) (ms : List Mark) (u : Unit) (us : List Unit) → AreMarks (u ∷ us) (m ∷ ms)
     → (without_number m ≡ mark_of u) × AreMarks us ms
 first_and_others m ms u us e =
     let both : without_number m ∷ map without_number ms ≡ mark_of u ∷ map mark_of us = e in
@@ -14,10 +18,10 @@ first_and_others m ms u us e =
     let rest : map without_number ms ≡ map mark_of us = cc in
     (here, rest)
 
-no_units : {X : Type 0} (m : Mark) (ms : List Mark) → AreMarks [] (m ∷ ms) → X
+pub no_units : {X : Type 0} (m : Mark) (ms : List Mark) → AreMarks [] (m ∷ ms) → X
 no_units m ms e = absurd (let k : without_number m ∷ map without_number ms ≡ [] = e in cc)
 
-no_marks : {X : Type 0} (u : Unit) (us : List Unit) → AreMarks (u ∷ us) [] → X
+pub no_marks : {X : Type 0} (u : Unit) (us : List Unit) → AreMarks (u ∷ us) [] → X
 no_marks u us e = absurd (let k : [] ≡ mark_of u ∷ map mark_of us = e in cc)
 
 draft_same : (m : Mark) (u : Unit) → without_number m ≡ mark_of u → m.draft ≡ u.draft
@@ -26,8 +30,11 @@ draft_same m u e = ap (λ (x : Mark). x.draft) e
 until_same : (m : Mark) (u : Unit) → without_number m ≡ mark_of u → m.until ≡ u.until
 until_same m u e = ap (λ (x : Mark). x.until) e
 
-id_same : (m : Mark) (u : Unit) → without_number m ≡ mark_of u → m.id ≡ u.id
+pub id_same : (m : Mark) (u : Unit) → without_number m ≡ mark_of u → m.id ≡ u.id
 id_same m u e = ap (λ (x : Mark). x.id) e
+
+pub boxed_same : (m : Mark) (u : Unit) → without_number m ≡ mark_of u → m.boxed ≡ is_some_there u.values.boxes
+boxed_same m u e = ap (λ (x : Mark). x.boxed) e
 
 -- their numbers
 pub ids_same : (units : List Unit) (marks : List Mark) → AreMarks units marks
@@ -38,6 +45,31 @@ ids_same (u ∷ us) [] e = no_marks u us e
 ids_same (u ∷ us) (m ∷ ms) e =
     let parts = first_and_others m ms u us e in
     ap₂ ◌∷◌ (id_same m u parts.0) (ids_same us ms parts.1)
+
+-- whether a unit is no draft, by the mark that is found by its number
+abbrev pub is_published_mark : Option Mark → Bool
+is_published_mark None = false
+is_published_mark (Some mark) = not mark.draft
+
+pub published_same : (id : ℕ) (units : List Unit) (marks : List Mark) → AreMarks units marks
+    → is_published_mark (find (has_mark id) marks) ≡ is_published (find (has_id id) units)
+published_same id [] [] e = refl
+published_same id [] (m ∷ ms) e = no_units m ms e
+published_same id (u ∷ us) [] e = no_marks u us e
+published_same id (u ∷ us) (m ∷ ms) e =
+    let parts = first_and_others m ms u us e in
+    ap (λ b. is_published_mark (cond b (Some m) (find (has_mark id) ms))) (ap (nat_eq id) (id_same m u parts.0))
+    ∙ at (has_id id u) (draft_same m u parts.0) (published_same id us ms parts.1)
+  where
+    at : (b : Bool) → m.draft ≡ u.draft → is_published_mark (find (has_mark id) ms) ≡ is_published (find (has_id id) us)
+        → is_published_mark (cond b (Some m) (find (has_mark id) ms)) ≡ is_published (cond b (Some u) (find (has_id id) us))
+    at true same later = ap not same
+    at false same later = later
+
+-- all units of a forest
+pub marks_in_order : (f : Forest Unit) (marks : List Mark) → AreWalkMarks f marks → AreMarks (nodes f) marks
+marks_in_order f marks it =
+    ap (map without_number) it.walked ∙ sym (nodes-each without_number it.forest) ∙ ap nodes it.theirs ∙ nodes-each mark_of f
 
 module _ (day : ℤ) where
   clear_same : (m : Mark) (u : Unit) → without_number m ≡ mark_of u → is_clear day m ≡ is_open_on day (head_of u)

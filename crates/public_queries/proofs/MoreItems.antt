@@ -1,8 +1,8 @@
 -- Lists, one item further.
-use Rattle.std.proofs.Common.{◌≡◌, ℕ, suc, ◌+◌, ◌<◌, List, [], ◌∷◌, ◌++◌, length, take, drop, get_or, Option, None, sym}
-use Rattle.std.proofs.Common.{ap, ap₂, ◌∙◌, append-nil, arith, drop-cons}
-use Rattle.std.proofs.lemmas.List.Elements.{filter_map-append}
-use Rattle.std.specs.Prelude.{map}
+use Rattle.std.proofs.Common.{◌≡◌, ℕ, suc, ◌+◌, ◌<◌, Bool, true, false, cond, List, [], ◌∷◌, ◌++◌, length, take, drop}
+use Rattle.std.proofs.Common.{get_or, Option, None, sym, ap, ap₂, ◌∙◌, append-nil, arith, drop-cons}
+use Rattle.std.proofs.lemmas.List.Elements.{filter-append, filter_map-append}
+use Rattle.std.specs.Prelude.{filter, map}
 use Rattle.public_queries.proofs.Common.{cons_option, filter_map, map-append, take_more}
 
 pub each_more : {X Y : Type 0} (f : X → Y) (xs : List X) (i : ℕ) (x : X) → x ≡ get_or xs i x → i < length xs
@@ -30,3 +30,17 @@ mapped_at f xs i d o within e =
 pub left_at : {X : Type 0} (xs : List X) (i : ℕ) (x : X) → x ≡ get_or xs i x → i < length xs
     → drop i xs ≡ x ∷ drop (i + 1) xs
 left_at xs i x is within = drop-cons xs i x within ∙ ap₂ ◌∷◌ (sym is) (ap (λ n. drop n xs) (let e : suc i ≡ i + 1 = omega arith in e))
+
+-- those that are kept: one more, or not
+pub kept_more : {X : Type 0} (p : X → Bool) (xs : List X) (i : ℕ) (x : X) → x ≡ get_or xs i x → i < length xs
+    → p x ≡ true → filter p (take (i + 1) xs) ≡ filter p (take i xs) ++ x ∷ []
+kept_more p xs i x is within e =
+    let here = rw (← is) at (take_more xs i x within) in
+    ap (filter p) here ∙ filter-append p (take i xs) (x ∷ []) ∙ ap (λ b. filter p (take i xs) ++ cond b (x ∷ []) []) e
+
+pub left_out : {X : Type 0} (p : X → Bool) (xs : List X) (i : ℕ) (x : X) → x ≡ get_or xs i x → i < length xs
+    → p x ≡ false → filter p (take (i + 1) xs) ≡ filter p (take i xs)
+left_out p xs i x is within e =
+    let here = rw (← is) at (take_more xs i x within) in
+    ap (filter p) here ∙ filter-append p (take i xs) (x ∷ []) ∙ ap (λ b. filter p (take i xs) ++ cond b (x ∷ []) []) e
+    ∙ append-nil (filter p (take i xs))

@@ -6,7 +6,8 @@ use Rattle.std.specs.Prelude.{map}
 use Rattle.office_core.specs.State.{State}
 use Rattle.office_core.specs.declared.query.Query.TheVariants as query
 use Rattle.public_queries.proofs.Common.{AllByRecursion, AreMarks, Bytes, HasDistinctIds, Head, IsSoundOffice, Mark}
-use Rattle.public_queries.proofs.Common.{OfficeRow, Text, Unit, UnitValues, Unknown, UnknownUnit, all_bare, answer}
+use Rattle.public_queries.proofs.Common.{OfficeRow, Text, Unit, UnitValues, Unknown, UnknownUnit, all_bare, all_needed}
+use Rattle.public_queries.proofs.Common.{answer}
 use Rattle.public_queries.proofs.Common.{closed_page, coded_way, each, ends_closed, false≢true, filter_map, has_id}
 use Rattle.public_queries.proofs.Common.{head_alone, head_identifiers, head_of, identifiers_of, is_closed_there}
 use Rattle.public_queries.proofs.Common.{is_open_there, is_unit_closed, map-append, nodes, nodes-each, office_of, page}
@@ -15,6 +16,7 @@ use Rattle.public_queries.proofs.Common.{repository_of, shows_last, shows_marked
 use Rattle.public_queries.proofs.FoundUnits.{path_all, found_each}
 use Rattle.public_queries.proofs.MarkedPaths.{ends_same, shows_same}
 use Rattle.public_queries.proofs.OwnRows.{found_node, shows_no_draft}
+use Rattle.public_queries.proofs.PageNeeds.{enough_read, same_needed_identifiers}
 use Rattle.public_queries.proofs.PublicHeads.{all_published, heads_found}
 use Rattle.public_queries.proofs.Standing.{shown_in, Stands, stands}
 use Rattle.public_queries.proofs.PagePrinted.{page_hidden, page_closed, page_told, is_there, last_same}
@@ -113,23 +115,26 @@ module _ (s : State) (sound : IsSoundOffice s) where
           ∙ ap (λ h. page (closed_page (head_alone (repository_of (office_of s)) (head_identifiers (map head_of (path (has_id u) s.catalogue.forest))) s.day h))) last_is)
           ∙ sym (page_closed (press s) s.day u s.catalogue.forest distinct it shown (sym (ap (is_closed_there s.day) node_is) ∙ c))
 
-      -- an open one, by the values of its path
-      pub answers_told : (row : OfficeRow) (units : List UnitValues) (heads : List Head) (text : Bytes) → row ≡ office_of s
+      -- an open one, by what was read of its path
+      pub answers_told : (row : OfficeRow) (marks : List Mark) (units : List UnitValues) (heads : List Head) (text : Bytes)
+          → row ≡ office_of s → AreMarks (path (has_id u) s.catalogue.forest) marks
           → is_open_there s.day (find (has_id u) (nodes s.catalogue.forest)) ≡ true
-          → units ≡ map (unit_values s.catalogue.containers) (path (has_id u) s.catalogue.forest)
+          → units ≡ all_needed s.catalogue.containers marks (path (has_id u) s.catalogue.forest)
           → heads ≡ map head_of (published_units (tops (part_below has_id (Some u) s.catalogue.forest)))
           → text ≡ told_text (coded_way (repository_of row) [] [] units) (all_bare (repository_of row) (identifiers_of units) row.day heads)
           → Text text ≡ answer s (query.Page u)
-      answers_told row units heads text row_is opened us hs is =
+      answers_told row marks units heads text row_is are opened us hs is =
           let boxes = s.catalogue.containers in
           let way = path (has_id u) s.catalogue.forest in
           let told = map (unit_values boxes) way in
+          let read = all_needed boxes marks way in
           let below = all_bare (press s).at (head_identifiers (map head_of way)) s.day (map head_of (published_units (tops (part_below has_id (Some u) s.catalogue.forest)))) in
           let c = open_node opened in
           ap Text (is
           ∙ ap (λ (o : OfficeRow). told_text (coded_way (repository_of o) [] [] units) (all_bare (repository_of o) (identifiers_of units) o.day heads)) row_is
           ∙ ap (λ x. told_text (coded_way (press s).at [] [] x) (all_bare (press s).at (identifiers_of x) s.day heads)) us
-          ∙ ap (λ x. told_text (coded_way (press s).at [] [] told) (all_bare (press s).at x s.day heads)) (same_identifiers boxes way)
+          ∙ ap (λ x. told_text (coded_way (press s).at [] [] read) (all_bare (press s).at x s.day heads)) (same_needed_identifiers boxes marks way are ∙ same_identifiers boxes way)
+          ∙ enough_read (press s).at boxes (all_bare (press s).at (head_identifiers (map head_of way)) s.day heads) marks way are
           ∙ ap (λ x. told_text (coded_way (press s).at [] [] told) (all_bare (press s).at (head_identifiers (map head_of way)) s.day x)) hs
           ∙ subst (λ (w : List Unit). told_text (coded_way (press s).at [] [] (map (unit_values boxes) w)) below ≡ page (page_of_units (head_alone (press s).at (head_identifiers (map head_of w)) s.day (head_of it.node)) (coded_way (press s).at [] [] (map (unit_values boxes) w)) below)) (sym it.way) (told_same (press s).at boxes s.day it.above it.node below c))
           ∙ sym (page_told (press s) s.day u s.catalogue.forest distinct it shown c)

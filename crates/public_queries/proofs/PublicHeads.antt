@@ -2,9 +2,9 @@
 use Rattle.std.proofs.Common.{◌≡◌, inl, inr, ℕ, Bool, true, false, cond, not, List, [], ◌∷◌, Option, Some, None, refl}
 use Rattle.std.proofs.Common.{sym, ap, ◌∙◌}
 use Rattle.std.specs.List.{find}
-use Rattle.std.specs.Prelude.{map}
+use Rattle.std.specs.Prelude.{filter, map}
 use Rattle.public_queries.proofs.Common.{AllByRecursion, Forest, Has, Head, RepresentsUnits, Standing, Trees, Unit}
-use Rattle.public_queries.proofs.Common.{and_parts, cons_option, eqb-true, filter_map, found_one, has_id, head_of}
+use Rattle.public_queries.proofs.Common.{and_parts, cons_option, eqb-true, filter_map, found_one, has_id, head_of, is_published}
 use Rattle.public_queries.proofs.Common.{is_open_on, is_unit_closed, nodes, option_map, public_head, published_standing}
 use Rattle.public_queries.proofs.Common.{published_units, shows_last, standing_of, ℤ}
 use Rattle.public_queries.proofs.OwnRows.{Published}
@@ -22,6 +22,30 @@ heads_published db f at (u ∷ units) h =
         → cons_option (cond b None (Some (head_of u))) rest ≡ map head_of (cond (not b) (u ∷ published_units units) (published_units units))
     by true rest e = e
     by false rest e = ap (λ l. head_of u ∷ l) e
+
+-- drafts among them may be left out before
+pub drafts_left_out : (found : ℕ → Option Unit) (ids : List ℕ)
+    → filter_map (λ id. public_head (found id)) (filter (λ id. is_published (found id)) ids) ≡ filter_map (λ id. public_head (found id)) ids
+drafts_left_out found [] = refl
+drafts_left_out found (id ∷ ids) = at (found id) refl (drafts_left_out found ids)
+  where
+    heads : List ℕ → List Head
+    heads = filter_map (λ id. public_head (found id))
+
+    kept : List ℕ
+    kept = filter (λ id. is_published (found id)) ids
+
+    by : (u : Unit) → found id ≡ Some u → heads kept ≡ heads ids → (b : Bool) → u.draft ≡ b
+        → heads (cond (not b) (id ∷ kept) kept) ≡ cons_option (cond b None (Some (head_of u))) (heads ids)
+    by u is later true k = later
+    by u is later false k =
+        ap (λ o. cons_option (public_head o) (heads kept)) is
+        ∙ ap (λ b. cons_option (cond b None (Some (head_of u))) (heads kept)) k ∙ ap (λ l. head_of u ∷ l) later
+
+    at : (one : Option Unit) → found id ≡ one → heads kept ≡ heads ids
+        → heads (cond (is_published one) (id ∷ kept) kept) ≡ cons_option (public_head one) (heads ids)
+    at None is later = later
+    at (Some u) is later = by u is later u.draft refl
 
 -- the same of units that are found by their numbers
 pub heads_found : (f : Forest Unit) (units : List Unit)

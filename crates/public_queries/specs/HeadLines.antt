@@ -35,6 +35,11 @@ are_open day heads = list_all (is_open_on day) heads
 
 -- ---- units that are not drafts
 
+-- there is such a unit, and it is no draft
+abbrev pub is_published : Option Unit → Bool
+is_published None = false
+is_published (Some unit) = not unit.draft
+
 -- the head of such a unit, if there is one and it is no draft
 abbrev pub public_head : Option Unit → Option Head
 public_head None = None

@@ -1,6 +1,5 @@
 -- What is known of a unit and its path before texts are read.
-use Rattle.std.specs.Prelude.{◌≡◌, ℕ, true, List, map, find, Some}
-use Rattle.std.specs.List.{AllByRecursion}
+use Rattle.std.specs.Prelude.{◌≡◌, ℕ, true, List, map, find}
 use Rattle.tree_core.specs.Forest.{nodes, path}
 use Rattle.catalogue_core.specs.Descriptions.{HasAllPlaces, KnowsItsContainers}
 use Rattle.catalogue_core.specs.CatalogueMerge.{Catalogue}
@@ -18,12 +17,6 @@ use Rattle.public_queries.specs.OwnRows.{is_closed_there, is_open_there}
 pub record IsTellable (c : Catalogue) : Type 0 where
   pub places : HasAllPlaces c
   pub containers : KnowsItsContainers c
-
--- these are numbers of units of the catalogue
-pub record AreNumbersOf (c : Catalogue) (ids : List ℕ) : Type 0 where
-  pub units : List Unit
-  pub found : AllByRecursion (λ (u : Unit). find (has_id u.id) (nodes c.forest) ≡ Some u) units
-  pub are : ids ≡ map (λ (u : Unit). u.id) units
 
 -- the office's row and the marks of its units are known
 pub record RepresentsKnown (known : OfficeRow) (forest : List Mark) (s : State) : Type 0 where
@@ -46,12 +39,13 @@ pub record RepresentsShown (known : OfficeRow) (forest : List Mark) (unit : ℕ)
   pub at : RepresentsPath known unit way s
   pub walk : AreWalkMarks s.catalogue.forest forest
 
--- and the unit is not closed
-pub record RepresentsWay (known : OfficeRow) (forest : List Mark) (unit : ℕ) (way : List ℕ) (s : State) : Type 0 where
-  pub known_is : RepresentsShown known forest unit way s
+-- the marks of the path of a unit are known, and the public is shown the unit, which is not closed
+pub record RepresentsWay (known : OfficeRow) (forest : List Mark) (unit : ℕ) (marks : List Mark) (s : State) : Type 0 where
+  pub marked : RepresentsMarked known forest unit marks s
+  pub shown : shows_last s.day (map head_of (path (has_id unit) s.catalogue.forest)) ≡ true
   pub open_is : is_open_there s.day (find (has_id unit) (nodes s.catalogue.forest)) ≡ true
 
--- or it is closed
+-- the same of the path of a unit that is closed
 pub record RepresentsStub (known : OfficeRow) (unit : ℕ) (way : List ℕ) (s : State) : Type 0 where
   pub at : RepresentsPath known unit way s
   pub closed : is_closed_there s.day (find (has_id unit) (nodes s.catalogue.forest)) ≡ true

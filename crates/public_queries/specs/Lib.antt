@@ -6,3 +6,4 @@ pub mod OwnRows
 pub mod FindingAids
 pub mod PathValues
 pub mod PageLines
+pub mod PageNeeds

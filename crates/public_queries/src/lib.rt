@@ -6,6 +6,7 @@ mod aids;
 mod head_lines;
 mod own_rows;
 mod page_lines;
+mod page_needs;
 mod pages;
 mod path_heads;
 mod path_marks;

@@ -1,28 +1,22 @@
 //! The page of a unit. The marks of its path tell what it may show before any row is read, and each row is read once.
 
-ghost use Rattle.std.specs.Prelude.{◌≡◌, [], find, map, Some, IfOk};
+ghost use Rattle.std.specs.Prelude.{◌≡◌, [], IfOk};
 ghost use Rattle.isad_core.specs.PrintedDescriptions.{page as printed};
-ghost use Rattle.tree_core.specs.Forest.{nodes};
-ghost use Rattle.catalogue_core.specs.Bounds.{IsKept};
-ghost use Rattle.catalogue_core.specs.Units.{«Unit» as Described, has_id};
-ghost use Rattle.catalogue_statements.specs.Representation.{Represents};
 ghost use Rattle.office_core.specs.declared.query.Query.TheVariants as query;
-ghost use Rattle.office_tables.specs.Calls.{Answers};
-ghost use Rattle.office_tables.specs.Premises.{◌within◌and◌gives◌};
 ghost use Rattle.public_queries.specs.HeadLines.{all_bare, head_alone as bare_of, head_identifiers, repository_of};
 ghost use Rattle.public_queries.specs.InformedAnswers.{RespondsKnowing};
-ghost use Rattle.public_queries.specs.KnownPaths.{AreNumbersOf, IsTellable, RepresentsKnown, RepresentsMarked};
-ghost use Rattle.public_queries.specs.KnownPaths.{RepresentsStub, RepresentsWay};
+ghost use Rattle.public_queries.specs.KnownPaths.{RepresentsKnown, RepresentsMarked, RepresentsStub, RepresentsWay};
 ghost use Rattle.public_queries.specs.PageLines.{closed_page, told_text};
-ghost use Rattle.public_queries.specs.PathValues.{coded_way, identifiers_of, unit_values};
+ghost use Rattle.public_queries.specs.PathValues.{coded_way, identifiers_of};
 
 use crate::head_lines::{bare_units, head_alone};
 use crate::page_lines::{print_closed, print_told};
+use crate::page_needs::read_path;
 use crate::path_heads::identifiers;
 use crate::path_marks::{is_last_closed, numbers, shows_last};
 use crate::path_values::with_codes;
 use crate::public_heads::{public_heads, public_heads_below};
-use catalogue_store::{Head, OfficeRow, Places, UnitValues, values};
+use catalogue_store::{Head, OfficeRow, Places, UnitValues};
 use isad_core::{List, Number};
 use known_forest::KnownForest;
 use known_units::path_marks;
@@ -32,43 +26,8 @@ use sqlite::Alter;
 use std::alloc::{AllocError, Global};
 use visibility::Mark;
 
-/// The values of a unit, which must exist.
-fn values_there<P: Places, S: Alter>(
-    alloc: Global,
-    tables: &mut Tables<P, S>,
-    unit: Number,
-) -> Result<UnitValues, StoreFault>
-    ensures answers { Answers S.Store (Represents P.represents P.version) tables.old tables.new result
-        within IsKept and (λ c. IsTellable c × (u : Described) × (find (has_id unit) (nodes c.forest) ≡ Some u))
-        gives λ _ c told. IsTellable c → (u : Described) → find (has_id unit) (nodes c.forest) ≡ Some u
-        → told ≡ unit_values c.containers u }
-{
-    let Some(told) = values(alloc, tables, unit)? else {
-        return Err(StoreFault::Schema);
-    };
-    Ok(told)
-}
-
-/// The values of each of these units.
-fn values_of_all<P: Places, S: Alter>(
-    alloc: Global,
-    tables: &mut Tables<P, S>,
-    way: &[Number],
-) -> Result<Vec<UnitValues>, StoreFault>
-    ensures answers { Answers S.Store (Represents P.represents P.version) tables.old tables.new result
-        within IsKept and (λ c. IsTellable c × AreNumbersOf c way.now)
-        gives λ _ c units. IsTellable c → (of : AreNumbersOf c way.now)
-        → units.items ≡ map (unit_values c.containers) of.units }
-{
-    let mut units = Vec::new(alloc);
-    for unit in way {
-        units.push(values_there(alloc, tables, *unit)?)?;
-    }
-    Ok(units)
-}
-
-/// The page of the last unit of a path, which is not closed, from the values of each unit of the path and the heads of
-/// the units below the last. Empty for an empty path.
+/// The page of the last unit of a path, which is not closed, from what was read of each unit of the path and the
+/// heads of the units below the last. Empty for an empty path.
 fn print_way(
     alloc: Global,
     known: &OfficeRow,
@@ -98,19 +57,19 @@ fn print_stub(
     print_closed(alloc, head)
 }
 
-/// Answers with the page of a unit that is not closed, whose path has these units. The public must be shown it.
+/// Answers with the page of a unit that is not closed, whose path has these marks. The public must be shown it.
 fn told_page<P: Places, S: Alter>(
     alloc: Global,
     tables: &mut Tables<P, S>,
     known: &OfficeRow,
     forest: &KnownForest,
     unit: Number,
-    way: &[Number],
+    way: &[Mark],
 ) -> Result<Answer, StoreFault>
     ensures { RespondsKnowing P.represents P.version S.Store (RepresentsWay known.now forest.now unit way.now)
         (query.Page unit) tables.old tables.new result }
 {
-    let told = values_of_all(alloc, tables, way)?;
+    let told = read_path(alloc, tables, way)?;
     let heads = public_heads_below(alloc, tables, forest, Some(unit))?;
     let text = print_way(alloc, known, told, heads.as_slice())?;
     Ok(Answer::Text(text))
@@ -151,11 +110,11 @@ fn page_on_path<P: Places, S: Alter>(
     if !shows_last(marks, known.day) {
         return Ok(Answer::Unknown(Refusal::UnknownUnit));
     }
-    let way = numbers(alloc, marks)?;
     if is_last_closed(marks, known.day) {
+        let way = numbers(alloc, marks)?;
         return stub_page(alloc, tables, known, unit, way.as_slice());
     }
-    told_page(alloc, tables, known, forest, unit, way.as_slice())
+    told_page(alloc, tables, known, forest, unit, marks)
 }
 
 /// Answers with the page of a unit, or with `UnknownUnit` if the public is shown no such unit. `known` must be the

@@ -1,8 +1,10 @@
-//! What the marks of a path tell of its last unit: whether the public is shown it, and whether it is closed.
+//! What the marks of a path tell: whether the public is shown its last unit, whether that is closed, and whether units
+//! of it have containers.
 
 ghost use Rattle.std.specs.Prelude.{◌≡◌, IfOk, map};
 ghost use Rattle.visibility.specs.Marks.{is_later};
 ghost use Rattle.visibility.specs.declared.marks.Mark.{Mark};
+ghost use Rattle.public_queries.specs.PageNeeds.{are_boxed};
 ghost use Rattle.public_queries.specs.PathMarks.{are_clear as all_clear, ends_closed, is_clear, shows_marked};
 
 use isad_core::{Day, Number};
@@ -56,4 +58,11 @@ pub(crate) fn numbers(alloc: Global, way: &[Mark]) -> Result<Vec<Number>, AllocE
     ensures { IfOk result (λ ids. ids.items ≡ map (λ (mark : Mark). mark.id) way.now) }
 {
     way.iter().map(|mark| mark.id).collect(alloc)
+}
+
+/// Whether some of these units have containers of their own.
+pub(crate) fn are_boxed(way: &[Mark]) -> bool
+    ensures { result ≡ are_boxed way.now }
+{
+    way.iter().any(|mark| mark.boxed)
 }

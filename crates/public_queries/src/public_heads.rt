@@ -1,17 +1,17 @@
-//! The heads of units that are not drafts. Of a draft no text is read.
+//! The heads of units that are not drafts. Of a draft no row is read where the marks of all units are known.
 
-ghost use Rattle.std.specs.Prelude.{◌≡◌, [], find, filter_map, map, nat_eq, option_map, unwrap_or, IfOk};
-ghost use Rattle.tree_core.specs.Forest.{nodes};
+ghost use Rattle.std.specs.Prelude.{◌≡◌, [], find, filter, filter_map, map, nat_eq, option_map, unwrap_or, IfOk};
+ghost use Rattle.tree_core.specs.Forest.{Forest, nodes};
 ghost use Rattle.tree_core.specs.Tops.{part_below, tops};
 ghost use Rattle.catalogue_core.specs.Bounds.{IsKept};
-ghost use Rattle.catalogue_core.specs.Units.{has_id};
+ghost use Rattle.catalogue_core.specs.Units.{«Unit» as Described, has_id};
 ghost use Rattle.office_tables.specs.Calls.{Answers};
 ghost use Rattle.office_tables.specs.Premises.{◌within◌gives◌};
 ghost use Rattle.catalogue_statements.specs.Representation.{Represents};
 ghost use Rattle.catalogue_statements.specs.declared.row_types.Element.{Element};
 ghost use Rattle.catalogue_store.specs.Heads.{head_of};
 ghost use Rattle.known_units.specs.KnownUnits.{KnowsUnits};
-ghost use Rattle.public_queries.specs.HeadLines.{public_head, published_units};
+ghost use Rattle.public_queries.specs.HeadLines.{is_published, public_head, published_units};
 
 use crate::own_rows::find_published;
 use catalogue_statements::elements::first_elements;
@@ -85,6 +85,34 @@ pub(crate) fn public_heads<P: Places, S: Alter>(
     Ok(heads)
 }
 
+/// Whether there is this unit, and it is no draft.
+fn is_published(forest: &KnownForest, unit: Number) -> bool
+    ensures { (f : Forest Described) → KnowsUnits f forest.now → result ≡ is_published (find (has_id unit) (nodes f)) }
+{
+    match forest.mark(unit) {
+        None => false,
+        Some(mark) => !mark.draft,
+    }
+}
+
+/// Those of these units that are not drafts, in their order.
+fn published(
+    alloc: Global,
+    forest: &KnownForest,
+    units: &[Number],
+) -> Result<Vec<Number>, AllocError>
+    ensures { IfOk result (λ ids. (f : Forest Described) → KnowsUnits f forest.now
+        → ids.items ≡ filter (λ id. is_published (find (has_id id) (nodes f))) units.now) }
+{
+    let mut ids = Vec::new(alloc);
+    for unit in units {
+        if is_published(forest, *unit) {
+            ids.push(*unit)?;
+        }
+    }
+    Ok(ids)
+}
+
 /// The heads of the units right below this one that are not drafts, or of such tops if no unit is given, in their order.
 /// Empty if there is no such unit.
 pub(crate) fn public_heads_below<P: Places, S: Alter>(
@@ -98,6 +126,7 @@ pub(crate) fn public_heads_below<P: Places, S: Alter>(
         gives λ _ c heads. KnowsUnits c.forest forest.now
         → heads.items ≡ map head_of (published_units (tops (part_below has_id unit c.forest))) }
 {
-    let units = units_below(alloc, forest, unit)?;
+    let below = units_below(alloc, forest, unit)?;
+    let units = published(alloc, forest, &below)?;
     public_heads(alloc, tables, &units)
 }

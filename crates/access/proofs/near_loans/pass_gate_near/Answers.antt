@@ -1,4 +1,5 @@
 use Rattle.std.proofs.Common.{◌∙◌}
+use Rattle.access.proofs.Common.{is_named_near}
 use Rattle.access.proofs.Gates.{enough_of}
 use Rattle.access.proofs.Learned.{ends_by, fault_first, learned_by}
 use Rattle.access.proofs.near_loans.pass_gate_near.Goals as goal
@@ -11,8 +12,8 @@ returns g c =
     record {
       answers = ends_by (learned_by c.in_ok-near.ensures.answers) c.pass_gate_with.ensures.answers (λ _ s asked reply is judged day known.
           is judged day (
-            enough_of g.P.Versioned.version s judged asked.test (λ k far. known.0 k (asked.near k far)) c.deref.result.now
-                (c.deref.ensures.value ∙ asked.are),
+            enough_of g.P.Versioned.version s judged (is_named_near c.args.unit s) known.0 c.deref.result.now
+                (c.deref.ensures.value ∙ asked),
             known.1,
           ));
     }

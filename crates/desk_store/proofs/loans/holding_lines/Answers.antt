@@ -1,7 +1,6 @@
 use Rattle.std.proofs.Common.{map, ap, subst, ◌∙◌}
-use Rattle.desk_store.proofs.Common.{IfOk-weaker, IsPermutation, kept_all, known_query, looks_up, only_order}
-use Rattle.desk_store.proofs.LoanRows.{lines_means, lines_finds, lines_faults, line_of, by_container}
-use Rattle.desk_store.proofs.LoanRows.{by_container_total}
+use Rattle.desk_store.proofs.Common.{IfOk-weaker, IsPermutation, kept_all, known_query, line_of, looks_up, only_order}
+use Rattle.desk_store.proofs.LoanRows.{lines_means, lines_finds, lines_faults, by_container, by_container_total}
 use Rattle.desk_store.proofs.loans.holding_lines.Goals as goal
 
 pub find-requires : goal.find-requires

@@ -1,55 +1,21 @@
-use Rattle.std.proofs.Common.{Some, None, ap, sym, ◌∙◌}
-use Rattle.desk_store.proofs.Common.{HoldingLine, RepresentsDeskAlone, append-nil, early, loan_by, looks_then}
-use Rattle.desk_store.proofs.Common.{same_fault}
-use Rattle.desk_store.proofs.LoanCalls.{loans_more, loans_whole}
-use Rattle.desk_store.proofs.loans.issued.Goals.{in-Some+in_ok-push, in_default}
+use Rattle.std.proofs.Common.{ap, ◌∙◌}
+use Rattle.desk_store.proofs.Common.{RepresentsDeskAlone, early, loans_in, looks_then, same_fault}
+use Rattle.desk_store.proofs.LoanCalls.{loans_of_lines}
 use Rattle.desk_store.proofs.loans.issued.Goals as goal
 use Rattle.desk_store.proofs.ToldCalls.{shown_on}
-use Rattle.desk_store.proofs.TellingCalls.{ends_full, ends_not, ends_well}
+use Rattle.desk_store.proofs.TellingCalls.{ends_not, ends_well}
 
-pub returns-in_err-loan : goal.returns-in_err-loan
-returns-in_err-loan g c = record { answers = ends_not c.loop-line.invariant.looks c.in_err-loan.ensures.answers.aborts c.in_err-loan.ensures.answers.spares (λ d shown may kept. c.in_err-loan.ensures.answers.faults tt d shown tt kept) (same_fault c.from_residual-in_err-loan.ensures) }
-
-pub returns-in_err-push : goal.returns-in_err-push
-returns-in_err-push g c = record { answers = ends_full (looks_then c.loop-line.invariant.looks c.in_ok-loan.ensures.answers.looks) (same_fault c.from_residual-in_err-push.ensures) }
-
-pub loop-line-init : goal.loop-line-init
-loop-line-init g c =
-    record {
-      looks = c.in_ok-lines.ensures.reads.looks;
-      lines = λ clean desk shown. c.deref-line-items.ensures.value ∙ c.in_ok-lines.ensures.answers clean desk.holdings shown.holdings shown.holdings_rise;
-      so_far = λ clean desk shown. c.new-loans.ensures.items;
-    }
-
-pub loop-line-preserved : goal.loop-line-preserved
-loop-line-preserved g c =
-    let last = c.in_ok-loan.ensures.answers.looks in
-    let looked = c.loop-line.invariant.looks in
-    record {
-      looks = looks_then looked last;
-      lines = λ clean desk shown. c.loop-line.invariant.lines (early last.goes.on.crash clean) desk shown;
-      so_far = λ clean desk shown.
-          let before = early last.goes.on.crash clean in
-          let told = c.in_ok-loan.ensures.answers.answers clean tt desk (shown_on RepresentsDeskAlone looked before desk shown) in
-          let done = c.loop-line.invariant.so_far before desk shown in
-          let lines = c.deref-line-items.result.now in
-          let i = c.loop-line.line-index in
-          let none : HoldingLine = c.line-item.result in
-          let here = ap (λ (l : HoldingLine). loan_by desk.orders l.container l.held_by) c.line-item.is in
-          elim c.match-branch-3.branch [
-            | in-Some+in_ok-push w ↦
-                ap (λ v. v.items) w.loans-is ∙ w.in_ok-push.ensures.items
-                ∙ loans_more desk.orders lines i none c.loop-line.loans.items (Some w.in-Some.loan) c.loop-line-test.true done (sym w.in-Some.is ∙ told ∙ here)
-            | in_default w ↦
-                ap (λ v. v.items) w.loans-is ∙ sym (append-nil c.loop-line.loans.items)
-                ∙ loans_more desk.orders lines i none c.loop-line.loans.items None c.loop-line-test.true done (sym w.in_default.is ∙ told ∙ here)
-          ];
-    }
+pub returns-in_err-loans : goal.returns-in_err-loans
+returns-in_err-loans g c = record { answers = ends_not c.in_ok-lines.ensures.reads.looks c.in_err-loans.ensures.answers.aborts c.in_err-loans.ensures.answers.spares (λ d shown may kept. c.in_err-loans.ensures.answers.faults tt d shown tt kept) (same_fault c.from_residual-in_err-loans.ensures) }
 
 pub returns : goal.returns
 returns g c =
+    let first = c.in_ok-lines.ensures.reads.looks in
+    let last = c.in_ok-loans.ensures.answers.looks in
     record {
-      answers = ends_well c.loop-line.invariant.looks _ (λ clean desk shown.
-          loans_whole desk.orders desk.holdings c.deref-line-items.result.now c.loop-line.line-index c.loop-line.loans.items c.loop-line-test.false
-          (c.loop-line.invariant.lines clean desk shown) (c.loop-line.invariant.so_far clean desk shown));
+      answers = ends_well (looks_then first last) _ (λ clean d shown.
+          let before = early last.goes.on.crash clean in
+          let lines = c.deref.ensures.value ∙ c.in_ok-lines.ensures.answers before d.holdings shown.holdings shown.holdings_rise in
+          c.in_ok-loans.ensures.answers.answers clean tt d (shown_on RepresentsDeskAlone first before d shown)
+          ∙ ap (loans_in d) lines ∙ loans_of_lines d.orders d.holdings);
     }

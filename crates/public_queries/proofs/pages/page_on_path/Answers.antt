@@ -44,18 +44,12 @@ pub returns : goal.returns
 returns g c =
     let a = state g.S.Store c.args.tables.now in
     let d = state g.S.Store c.told_page.new.tables in
-    knows_then g.P.Places.represents g.P.Versioned.version (RepresentsMarked c.args.known.now c.args.forest.now c.args.unit c.args.marks.now) (RepresentsWay c.args.known.now c.args.forest.now c.args.unit c.as_slice-2.result.now) (query.Page c.args.unit) a a d c.told_page.result looks_nowhere
+    knows_then g.P.Places.represents g.P.Versioned.version (RepresentsMarked c.args.known.now c.args.forest.now c.args.unit c.args.marks.now) (RepresentsWay c.args.known.now c.args.forest.now c.args.unit c.args.marks.now) (query.Page c.args.unit) a a d c.told_page.result looks_nowhere
     (λ clean s sound so it.
     let shown = judged_marked s sound c.args.unit c.args.known.now c.args.marks.now so.own.office so.marks_are ∙ sym c.shows_last.ensures ∙ c.if-not-shows_last.false in
     record {
-      known_is = record {
-        at = record {
-          office = so.own.office;
-          way_is = c.as_slice-2.ensures.value ∙ c.in_ok-way.ensures ∙ ids_same (path (has_id c.args.unit) s.catalogue.forest) c.args.marks.now so.marks_are;
-          shown = shown;
-        };
-        walk = so.own.walk;
-      };
+      marked = so;
+      shown = shown;
       open_is = is_open_by s sound c.args.unit shown c.args.marks.now so.marks_are
           (ap (λ (o : OfficeRow). ends_closed o.day c.args.marks.now) (sym so.own.office) ∙ sym c.is_last_closed.ensures ∙ c.if-is_last_closed.false);
     })

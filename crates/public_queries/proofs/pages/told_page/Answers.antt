@@ -1,23 +1,23 @@
-use Rattle.std.proofs.Common.{◌≡◌, ℕ, List, map, ◌∙◌}
+use Rattle.std.proofs.Common.{ℕ, List, ◌∙◌}
 use Rattle.office_core.specs.State.{State}
 use Rattle.office_core.specs.declared.query.Query.TheVariants as query
-use Rattle.public_queries.proofs.Common.{AreNumbersOf, IsSoundOffice, RepresentsWay, Text, Unit, early, has_id}
-use Rattle.public_queries.proofs.Common.{looks_then, office_kept, office_of, path, same_fault, state, still_shown}
+use Rattle.public_queries.proofs.Common.{AreMarks, AreMarksOf, IsSoundOffice, Mark, RepresentsWay, Text, early}
+use Rattle.public_queries.proofs.Common.{has_id, looks_then, office_kept, office_of, path, same_fault, state, still_shown}
 use Rattle.public_queries.proofs.AidAnswers.{knows_all, tellable}
 use Rattle.public_queries.proofs.Knowings.{knows_by, knows_passed, knows_passed_later, knows_short}
 use Rattle.public_queries.proofs.PageAnswers.{answers_told, path_found}
 use Rattle.public_queries.proofs.pages.told_page.Goals as goal
 
-abbrev numbers_of : (s : State) → IsSoundOffice s → (unit : ℕ) (way : List ℕ)
-    → way ≡ map (λ (u : Unit). u.id) (path (has_id unit) s.catalogue.forest) → AreNumbersOf s.catalogue way
-numbers_of s sound unit way is =
-    record { units = path (has_id unit) s.catalogue.forest; found = path_found s sound unit; are = is }
+abbrev marks_of : (s : State) → IsSoundOffice s → (unit : ℕ) (way : List Mark)
+    → AreMarks (path (has_id unit) s.catalogue.forest) way → AreMarksOf s.catalogue way
+marks_of s sound unit way are =
+    record { units = path (has_id unit) s.catalogue.forest; found = path_found s sound unit; are = are }
 
 pub returns-in_err-told : goal.returns-in_err-told
 returns-in_err-told g c =
     let told = c.in_err-told.ensures.answers in
     knows_passed _ c.from_residual.ensures told.aborts
-    (λ s sound so it. told.faults (office_of s) s.catalogue it.catalogue (tellable s sound, numbers_of s sound c.args.unit c.args.way.now so.known_is.at.way_is) (office_kept s sound))
+    (λ s sound so it. told.faults (office_of s) s.catalogue it.catalogue (tellable s sound, marks_of s sound c.args.unit c.args.way.now so.marked.marks_are) (office_kept s sound))
 
 pub returns-in_err-heads : goal.returns-in_err-heads
 returns-in_err-heads g c =
@@ -36,7 +36,7 @@ returns-in_err-text g c =
 pub returns : goal.returns
 returns g c =
     let a = state g.S.Store c.args.tables.now in
-    let b = state g.S.Store c.values_of_all.new.tables in
+    let b = state g.S.Store c.read_path.new.tables in
     let d = state g.S.Store c.public_heads_below.new.tables in
     let first = c.in_ok-told.ensures.answers in
     let last = c.in_ok-heads.ensures.answers in
@@ -44,6 +44,6 @@ returns g c =
     (λ clean s sound so it.
     let at_b = early last.looks.goes.on.crash clean in
     let shown = still_shown g.P.Places.represents g.P.Versioned.version a b first.looks at_b s it in
-    let units = first.answers at_b (office_of s) s.catalogue it.catalogue (tellable s sound) (numbers_of s sound c.args.unit c.args.way.now so.known_is.at.way_is) in
-    let heads = c.as_slice.ensures.value ∙ last.answers clean (office_of s) s.catalogue shown.catalogue (knows_all s sound so.known_is.walk) in
-    answers_told s sound c.args.unit so.known_is.at.shown c.args.known.now c.in_ok-told.told.items c.as_slice.result.now c.in_ok-text.text so.known_is.at.office so.open_is units heads c.in_ok-text.ensures)
+    let units = first.answers at_b (office_of s) s.catalogue it.catalogue (tellable s sound) (marks_of s sound c.args.unit c.args.way.now so.marked.marks_are) in
+    let heads = c.as_slice.ensures.value ∙ last.answers clean (office_of s) s.catalogue shown.catalogue (knows_all s sound so.marked.own.walk) in
+    answers_told s sound c.args.unit so.shown c.args.known.now c.args.way.now c.in_ok-told.told.items c.as_slice.result.now c.in_ok-text.text so.marked.own.office so.marked.marks_are so.open_is units heads c.in_ok-text.ensures)
