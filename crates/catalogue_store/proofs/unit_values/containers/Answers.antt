@@ -1,8 +1,8 @@
-use Rattle.std.proofs.Common.{map, refl, ap, ◌∙◌}
+use Rattle.std.proofs.Common.{refl, ap, ◌∙◌}
 use Rattle.office_tables.specs.Schema as tables
 use Rattle.catalogue_store.specs.UnitValues.{values_or_none}
-use Rattle.catalogue_store.proofs.Common.{Database, RepresentsContainers, early, housing_row, looks_then, same_fault}
-use Rattle.catalogue_store.proofs.Common.{state, tells_cut, tells_not, tells_well}
+use Rattle.catalogue_store.proofs.Common.{Database, RepresentsContainers, early, looks_then, same_fault, state}
+use Rattle.catalogue_store.proofs.Common.{tells_cut, tells_not, tells_well}
 use Rattle.catalogue_store.proofs.UnitTold.{boxes_known, containers_told}
 use Rattle.catalogue_store.proofs.unit_values.containers.Goals as goal
 
