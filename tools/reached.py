@@ -12,7 +12,6 @@ printed; one of what nothing reaches is a problem. Laws are called by nobody.
 import argparse
 import re
 import sys
-import textwrap
 from collections import defaultdict
 from pathlib import Path
 
@@ -63,12 +62,12 @@ class Program:
         return reached
 
     def for_others(self):
-        """The public functions that only tests call, each with its sentence."""
+        """The public functions that only tests call."""
         paths = {it.path(): it for it in self.all if not is_law(it) and it not in self.reached}
         for crate in sorted({it.module[0] for it in self.all}):
             for it in code_rows.public_functions(self.top, crate):
                 if f"{crate}::{it.path()}" in paths:
-                    yield paths[f"{crate}::{it.path()}"], it.sentence()
+                    yield paths[f"{crate}::{it.path()}"]
 
     def mutated(self, record, crate):
         """The function in which a mutant changes something first, or none."""
@@ -92,8 +91,8 @@ def main():
     words.add_argument("--write", action="store_true", help="write the list in PROMISES")
     given = words.parse_args()
     program, page = Program(given.top), given.top / PAGE
-    listed, text = dict(program.for_others()), page.read_text(encoding="utf-8")
-    rows = "".join(f"    {it.path()}\n{textwrap.indent(textwrap.fill(why, 116), ' ' * 8)}\n" for it, why in listed.items())
+    listed, text = list(program.for_others()), page.read_text(encoding="utf-8")
+    rows = "".join(f"    {it.path()}\n" for it in listed)
     if given.write:
         text = MARKS.sub(lambda _: f"\n{rows}\n", text)
         page.write_text(text, encoding="utf-8")
