@@ -28,6 +28,7 @@ WEEKDAYS = [(datetime.date(2024, 1, 1) + datetime.timedelta(past)).strftime("%A"
 NAMES = ("Ann Reader", "Ben Reader")
 SPANS = {"issued on the same day": range(1), "on the next day": range(1, 2), "2 to 3 days later": range(2, 4),
          "4 to 7 days later": range(4, 8), "later": range(8, 1000), "not known": [None]}
+ODD, EVEN = FILE.splitlines()[2].split('"')[1], "Harbour & <Docks>"  # whose boxes these are
 WHY = {"TicketExpired": "ticket expired", "NotAvailable": "not open, or no such box", "New": "New"}
 EVENTS = ("Visits", "Orders", "Issues")
 
@@ -95,8 +96,14 @@ def by_reason(_, __, refused):
     return [[-year, why, many] for (year, why), many in sorted(found.items(), key=lambda one: (one[0][0], -one[1], one[0][1]))]
 
 
+def by_reason_and_archive(_, __, refused):
+    titles = {4: EVEN, 3: ODD, 99: "without an archive"}  # in the order of the catalogue
+    found = Counter((-day.year, WHY[why], [*titles].index(box), f"{WHY[why]}: {titles[box]}") for day, why, box in refused)
+    return [[-year, name, many] for (year, _, _, name), many in sorted(found.items())]
+
+
 def by_archive(orders, events, refused):
-    titles = [FILE.splitlines()[2].split('"')[1], "Harbour & <Docks>"]  # of odd boxes, and of even ones
+    titles = [ODD, EVEN]
     found = Counter((day.year, titles[1 - box % 2], what)
                     for day, _, box, state in orders for what in [1] + [3] * (state == 4))
     found.update((day.year, titles[1 - box % 2], 2) for day, what, _, box in events if what == "issue")
@@ -110,12 +117,14 @@ def by_archive(orders, events, refused):
     ("months", "Month", EVENTS, by_time(MONTHS, lambda day: day.month - 1)),
     ("weekdays", "Weekday", EVENTS, by_time(WEEKDAYS, datetime.date.weekday)), ("waiting", "Waited", ("Orders",), by_waiting),
     ("boxes", "Name", ("Orders", "Cancelled"), by_box), ("refused", "Why", ("Orders",), by_reason),
+    ("refusals", "Why, Title", ("Orders",), by_reason_and_archive),
     ("archives", "Title", ("Orders", "Issues", "Cancelled", "Refused"), by_archive)])
 def test_each_number_of_a_year_is_right_and_drawn(made, name, label, drawn, counted):
     folder, *what = made
     page = (folder / f"year-{name}.html").read_text("utf-8")
     with (folder / f"year-{name}.csv").open(encoding="utf-8-sig", newline="") as lines:
-        rows = [[int(row["Year"]), row[label], *(int(row[one]) for one in drawn)] for row in csv.DictReader(lines)]
+        rows = [[int(row["Year"]), ": ".join(row[one] for one in label.split(", ")), *(int(row[one]) for one in drawn)]
+                for row in csv.DictReader(lines)]
     assert rows == counted(*what) and len({row[0] for row in rows}) == 2
     assert not any(one in page for one in NAMES)
     for year in YEARS:

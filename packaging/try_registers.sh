@@ -76,7 +76,7 @@ tries() {
     is 'the office is as it was' sh -c "curl -s $desk/public/units/2 -u desk:quiet-paper | grep Minutes"
     pid=$(systemctl show -p MainPID --value record-office-try)
     is 'the service does not see the office' hidden "$pid" $office
-    same 'nginx alone may ask it, and the readers'"'"' service tell it' "$(stat -c '%a %G' /run/record-office-try/*.sock | xargs)" '620 record-office-readers 660 www-data'
+    same 'nginx alone may ask it, and the two services of readers tell it' "$(stat -c '%a %G' /run/record-office-try/*.sock | xargs)" '620 record-office-my 620 record-office-readers 660 www-data'
     is 'it has no network' sh -c "nsenter -t $pid -n ip -br link 2>/dev/null | grep -vq '^lo' && exit 1; exit 0"
     is 'a file is looked at' sh -c "curl -s -u desk:quiet-paper --data-binary @/root/tried.csv $desk/try/look | grep -q '\"counts\":{\"rows\":'"
     same 'a file is kept' "$(curl -s -u desk:quiet-paper --data-binary @/root/tried.csv $desk/try/imported/catalogue)" '{"kept": "catalogue"}'

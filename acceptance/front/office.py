@@ -11,6 +11,7 @@ free one (`office.ports["8080"]`).
 import base64
 import contextlib
 import hashlib
+import json
 import os
 import pathlib
 import pwd
@@ -41,6 +42,8 @@ SELDOM = ("--every", "100000", "--rest", "0", "--orders", "6000")  # one round, 
 # For those who ask for many pages in a row from one address.
 MANY_PAGES = [("record_office_pages burst=60", "record_office_pages burst=6000"),
               ("aids_in_a_row burst=9", "aids_in_a_row burst=9000")]
+MANY_ORDERS = [(f"record_office_{zone} burst={burst} ", f"record_office_{zone} burst=9000 ")
+               for zone, burst in (("my", 9), ("searches", 20), ("orders", 11))]  # the same for My orders
 KINDS = ("pages", "help", "searches", "aids", "orders")  # of requests: the readers' service has a socket for each
 PASSWORD = ("desk", "quiet-paper")
 PARTS = {"ann": "counter", "ben": "archivist", "cid": "clerk"}  # of others with the same password; the last is none
@@ -54,7 +57,7 @@ def signed_in(name: str, password: str = PASSWORD[1]) -> dict[str, str]:
 
 
 SIGNED_IN = signed_in(PASSWORD[0])
-DESK_NAME = "desk.example.org"
+DESK_NAME, SITE = "desk.example.org", "https://archive.example.org"
 
 # The configuration of a system's nginx around ours, with as many connections as OPERATING tells to allow.
 NGINX = """daemon off; pid nginx.pid; error_log nginx.log warn; user {user}; worker_processes 1; worker_rlimit_nofile 16384;
@@ -258,18 +261,20 @@ class Office(client.Office):
             folder.mkdir(exist_ok=True)
         with open(self.folder / "try.told", "a") as log:
             words = [PYTHON, "-B", "-s", FRONT / "try/service.py", "--copies", self.copies, "--files", self.kept, "--listen",
-                     place, "--ordered", self.folder / "ordered.sock", "--program", self.program.path]
+                     place, "--ordered", self.folder / "ordered.sock", self.folder / "my.sock", "--program", self.program.path]
             self.trying = subprocess.Popen([str(word) for word in words], stdout=log, stderr=log,
                                            env={**os.environ, "PYTHONPATH": str(FRONT / "look")})  # as its unit has it
         self.wait_for_socket(place, self.trying)
 
     def serve_my(self, *more: str) -> None:
-        """Begins the service of My orders; more: further words of its command line. Returns once it listens."""
-        place = self.folder / "mine"
-        (self.folder / "my.state").mkdir(exist_ok=True)
+        """Begins the service of My orders, with an address of the readers' site; more: further words of its command line.
+        Returns once it listens."""
+        place, own = self.folder / "mine", self.folder / "my.state/office.json"
+        own.parent.mkdir(exist_ok=True)
+        own.write_text(json.dumps(json.loads(self.words.read_text("utf-8")) | {"site": SITE}))
         with open(self.folder / "my.told", "a") as log:
             words = [PYTHON, "-B", "-s", FRONT / "my/my_orders.py", "--queue", self.folder / "my/queue.sock", "--state",
-                     self.folder / "my.state", "--listen", place, "--words", self.words, "--orders", "6000", *more]
+                     own.parent, "--listen", place, "--words", own, "--orders", "6000", "--desk", self.folder / "my.sock", *more]
             self.showing = subprocess.Popen([str(word) for word in words], stdout=log, stderr=log,
                                             env={**os.environ, "PYTHONPATH": str(READERS)})  # as its unit has it
         for name in ("my", "cards"):
@@ -373,6 +378,13 @@ class Office(client.Office):
             yield
         finally:
             self.waiting.set()
+
+    def copy_store(self, path: str | pathlib.Path) -> None:
+        """Copies the store as the backup does, while the program is away: to this path, or under this name to the copies of the
+        night."""
+        with self.without_program():
+            subprocess.run(["sqlite3", self.store, f".backup {self.copies / path}"], check=True)
+        self.wait_for(self.public + "/public/fonds")
 
     @contextlib.contextmanager
     def without_queue(self) -> Iterator[None]:

@@ -1,17 +1,17 @@
 """A day at the desk from names and reference codes, by keys and with a barcode reader; and for which unit an order was."""
 
 import contextlib
+import itertools
 import json
 import socket
 import sqlite3
-import subprocess
 
 import pytest
 
 from acceptance.front.asks import Asks
 from acceptance.front.desk_state import FAR
 from acceptance.front.files import csv_text, unit
-from acceptance.front.office import MANY_PAGES, SELDOM
+from acceptance.front.office import MANY_ORDERS, MANY_PAGES, SELDOM
 from acceptance.front.waits import until
 
 pytestmark = pytest.mark.needs("sqlite3")
@@ -34,17 +34,13 @@ REFUSED = b'{"taken": [], "refused": [[1, "Full"]]}'
 def office(new_office, module_room):
     """An office with an archive and two readers, and the night's copy of it."""
     (module_room / "sykes.csv").write_text(SYKES)
-    office = new_office(readers=SELDOM, tries=True, files=[("sykes", module_room / "sykes.csv")], changes=MANY_PAGES)
+    office = new_office(readers=SELDOM, tries=True, files=[("sykes", module_room / "sykes.csv")],
+                        changes=MANY_PAGES + MANY_ORDERS)
     for name in ("Zo\u00eb \u0141ukasz", "Ben O'Neill"):
         Asks(office).command("/desk/register", name=name, until=FAR)
-    make_copy(office, "2024-03-01")
+    office.copy_store("office-2024-03-01.db")
+    office.serve_my()
     return office
-
-
-def make_copy(office, day):
-    with office.without_program():
-        subprocess.run(["sqlite3", office.store, f".backup {office.copies / f'office-{day}.db'}"], check=True)
-    office.wait_for(office.public + "/public/fonds")
 
 
 def kept(office, select):
@@ -53,16 +49,24 @@ def kept(office, select):
         return it.execute(select).fetchall()
 
 
+def order_on(asks, way, unit, box):
+    """Sends a reader's order for a unit: from its page, or on My orders."""
+    secret = asks.read(f"/my/{BEN}")["address"].rpartition("/")[2]
+    path, form = {"page": (f"/unit/{unit}/order", f"ticket={BEN}&container={box}"), "my": ("/my/order", f"container={unit}-{box}")}[way]
+    assert asks.send("POST", path, form, fields={"Cookie": f"my={secret}"})[0] == 200
+
+
+@pytest.mark.parametrize("way", ["page", "my"])
 @pytest.mark.parametrize("number, box, told", [
     (SECOND, LETTERS, [(SECOND, "Second year")]), (AGENT, LETTERS, [(AGENT, "Letters to him")]),
     (MAPS, MAP_2, [(MAPS, "Maps")]), (MAPS, LETTERS, []), (SECRET, LETTERS, []), (NEWER, LETTERS, [(NEWER, None)])])
-def test_staff_are_told_which_unit_in_the_box_a_reader_wanted_and_no_other(asks, state, office, number, box, told):
+def test_staff_are_told_which_unit_in_the_box_a_reader_wanted_and_no_other(asks, state, office, way, number, box, told):
     """Whoever names a draft on the way learns nothing: a slip may come into a reader's hands. The order is for the box."""
     def wanted(*order):
         units = json.loads(asks.send("POST", "/try/wanted", json.dumps([order]), True)[1])["orders"]
         return [(one["unit"], one.get("title")) for one in units]
     state.empty()
-    asks.send("POST", f"/unit/{number}/order", f"ticket={BEN}&container={box}")
+    order_on(asks, way, number, box)
     [order] = state.orders_of(BEN)
     until(lambda: kept(office, f"SELECT 1 FROM wanted WHERE number = {order}"), "the order's unit is kept")
     assert wanted(order, BEN, box) == told
@@ -80,15 +84,20 @@ def test_what_nobody_tells_so_is_not_kept_and_ends_nothing(office, asks, said):
     [(units, refused)] = kept(office, both)
     asks.send("POST", "/try/ordered", said, True)
     with socket.socket(socket.AF_UNIX, socket.SOCK_DGRAM) as it:
-        for message in (said, REFUSED):
-            it.sendto(message, str(office.folder / "ordered.sock"))
-    until(lambda: kept(office, both) == [(units, refused + 1)], "what comes behind is kept, and nothing else")
+        for message, name in itertools.product((said, REFUSED), ("ordered", "my")):
+            it.sendto(message, str(office.folder / f"{name}.sock"))
+    until(lambda: kept(office, both) == [(units, refused + 2)], "what comes behind is kept, and nothing else")
 
 
-def test_why_orders_were_refused_is_kept_without_whom(asks, office):
+def test_why_orders_were_refused_is_kept_without_whom(asks, office, state):
+    state.empty()
     asks.send("POST", "/ordered/order", f"ticket=99&container={SECOND}-{LETTERS}&container={MAPS}-{MAP_1}")
     unknown = "SELECT container, many FROM refused WHERE why = 'UnknownTicket' ORDER BY 1"
     until(lambda: kept(office, unknown) == [(LETTERS, 1), (MAP_1, 1)], "both are kept")
+    for _ in range(2):
+        order_on(asks, "my", MAPS, MAP_1)
+    again = "SELECT container, many FROM refused WHERE why = 'AlreadyOrdered'"
+    until(lambda: kept(office, again) == [(MAP_1, 1)], "and that of My orders")
     assert [name for _, name, *_ in kept(office, "PRAGMA table_info(refused)")] == ["day", "why", "container", "many"]
 
 
@@ -201,7 +210,7 @@ def test_a_unit_is_closed_and_opened_to_a_reader_by_its_code_and_its_call_slip_h
     type_in(desk, "container", "ddsy/12", "Order a container")
     desk.key("Enter")
     desk.see("for Rental 1")
-    make_copy(office, "2024-03-02")
+    office.copy_store("office-2024-03-02.db")
     run = asks.command("/desk/run")["run"]
     desk.at(f"/runs/{run}").see("Wanted: GB 0999 DDSY/12, Rentals Closed until 2030-01-01.")
     desk.at(f"/runs/{run}/slips").see(f"Wanted: unit {RENTALS}")

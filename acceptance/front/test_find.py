@@ -1,7 +1,6 @@
 """What a colleague has in hand: the field in the head of each page of the desk, and fields that take reference codes."""
 
 import json
-import subprocess
 
 import pytest
 
@@ -31,9 +30,7 @@ def office(new_office, module_room):
     for name in READERS:
         asks.command("/desk/register", name=name, until=FAR)
     asks.command("/desk/closure", unit=3, until=CLOSED)
-    with office.without_program():
-        subprocess.run(["sqlite3", office.store, f".backup {office.copies / 'office-2024-03-01.db'}"], check=True)
-    office.wait_for(office.public + "/public/fonds")
+    office.copy_store("office-2024-03-01.db")
     return office
 
 

@@ -3,15 +3,16 @@ anything, by a number, a guess, an old card, a time, a log or a cache. With the 
 thousands in this process, before a desk that counts what it is asked."""
 
 import contextlib
+import datetime
 import http.client
 import importlib
-import itertools
 import json
 import random
 import re
 import sqlite3
 import subprocess
 import sys
+import time
 from typing import NamedTuple
 
 import pytest
@@ -20,15 +21,13 @@ from acceptance import client
 from acceptance.front.catalogue import archives, dock_company
 from acceptance.front.desk_state import DeskState
 from acceptance.front.measured import Measured
-from acceptance.front.office import SELDOM, TOP
+from acceptance.front.office import MANY_ORDERS, SELDOM, SITE, TOP
 from acceptance.front.waits import until
 
-SITE = "https://archive.example.org"
 FAR, PAST = "2030-12-31", "2020-01-01"
 NEXT, SECOND = "It waits, and you are next.", "It waits. 1 reader is before you."
+WANTED = "Wanted: GB 0999 HUL/1, Minutes"
 FORM = {"Content-Type": "application/x-www-form-urlencoded"}
-MANY = [(f"{zone} burst={burst} ", f"{zone} burst=9000 ") for zone, burst in
-        (("record_office_my", 9), ("record_office_searches", 20), ("record_office_orders", 11))]
 LETTERS = "0123456789abcdefghjkmnpqrstvwxyz"
 
 
@@ -82,10 +81,7 @@ class Desk(DeskState):
 
 @pytest.fixture(scope="module")
 def office(new_office, module_room):
-    words = module_room / "office.json"
-    words.write_text(json.dumps({"name": "Hull", "site": SITE}))
-    office = new_office(readers=SELDOM, files=archives(module_room, catalogue=dock_company()), changes=MANY)
-    office.words = words
+    office = new_office(readers=SELDOM, tries=True, files=archives(module_room, catalogue=dock_company()), changes=MANY_ORDERS)
     office.serve_my("--messages", "yes")
     return office
 
@@ -167,7 +163,7 @@ def played(room):
     from cards import Cards
     from layouts import Layouts
     from service import Answering
-    pages, asked = my_orders.MyOrders(None, Cards(room), Layouts(languages.load(), room / "none"), 6000, False), []
+    pages, asked = my_orders.MyOrders(None, None, Cards(room), Layouts(languages.load(), room / "none"), 6000, False), []
 
     def desk(path):
         asked.append(path)
@@ -350,30 +346,68 @@ def test_an_office_may_switch_it_off(desk_state, asks, office):
         office.serve_my("--messages", "yes")
 
 
-def test_the_register_says_who_cancelled_through_a_year(desk_state, asks, office, room):
-    """By the desk's log and what the service has noted; and each night reads again what it has read."""
-    ann, ben = desk_state.readers()[:2]
-    reader, orders = desk_state.reader(ann), [desk_state.order(ticket, box) for ticket, box in ((ann, 1), (ben, 1), (ann, 2))]
-    reader.open()
-    reader.ask("/my/cancel", f"order={orders[0]}")
-    reader.ask("/my/cancel", f"order={orders[1]}")  # which is not hers
-    asks.command("/desk/cancel", order=orders[1])
-    with office.without_program():
-        subprocess.run(["sqlite3", office.store, f".backup {room / 'copy.db'}"], check=True)
-    with tools() as my_cards:
-        lines = my_cards.lines(Namespace(my=office.folder / "my.state"))
-    assert reader.secret not in "".join(lines)
-    desks = (office.folder / "log-desk.log").read_text().splitlines()
-    lines = lines[-1:] + [line for line in desks if "/desk/cancel" in line][-1:]
-    year = [json.dumps({**json.loads(line), "id": f"{day:031x}{at}", "at": str(86400 * day)})
-            for day, (at, line) in itertools.product(range(366), enumerate(lines))]
-    for night in range(0, 366, 20):
-        said = "\n".join(year[2 * max(night - 40, 0):2 * (night + 20)])
-        subprocess.run([TOP / "packaging/lists/record-office-register", room / "register.db", "--copy", room / "copy.db"],
-                       input=said, text=True, check=True, capture_output=True)
-    with contextlib.closing(sqlite3.connect(room / "register.db")) as register:
-        found = register.execute("SELECT what, ticket, container, staff, is_sure, count(*) FROM event GROUP BY 4 ORDER BY 4")
-        assert found.fetchall() == [("cancel", ben, 1, "desk", 1, 366), ("cancel", ann, 1, "the reader", 1, 366)]
+@pytest.mark.parametrize("days", [20, pytest.param(250, marks=pytest.mark.thorough)])
+def test_the_register_says_who_cancelled_through_a_year_and_the_office_who_ordered(desk_state, asks, office, room, days):
+    """On My orders and at the desk at random. What readers cancel is kept for forty days, and a night reads again what it has
+    read."""
+    tickets, dice, began = desk_state.readers()[:3], random.Random(days), time.time()
+    readers = {ticket: desk_state.reader(ticket) for ticket in tickets}
+    assert {reader.open().status for reader in readers.values()} == {200}
+    waiting, ordered, cancelled = {}, [], []
+    for day in range(days):
+        asks.command("/desk/day", day=f"{datetime.date(2025 + days // 100, 1, 1) + datetime.timedelta(day)}")
+        for _ in range(dice.randint(2, 9)):
+            who, ticket, box = dice.choice(("the reader", "desk")), dice.choice(tickets), dice.randint(1, 3)
+            others = [order for (whose, _), order in waiting.items() if whose != ticket]
+            readers[ticket].ask("/my/cancel", f"order={dice.choice([0, *others])}")
+            if (ticket, box) in waiting:
+                cancel(asks, readers[ticket] if who == "the reader" else None, waiting.pop((ticket, box)))
+                cancelled.append((ticket, box, who, 1))
+            else:
+                number = order_from(readers[ticket], box) if who == "the reader" else desk_state.order(ticket, box)
+                ordered.append((number, ticket, box, box + 1 if who == "the reader" else None))
+                waiting[ticket, box] = number
+        asks.try_command("/desk/run", {})
+        pass_a_day(office, room, day % 10 == 9)
+    print(f"{len(ordered)} orders, {len(cancelled)} cancelled, {sum(who == 'desk' for _, _, who, _ in cancelled)} at the desk")
+    since = "SELECT ticket, container, staff, is_sure FROM event WHERE what = 'cancel' AND at > ? ORDER BY at"
+    assert rows(room / "register.db", since, began) == cancelled
+    from_first = """SELECT orders.id, orders.ticket, orders.container, unit FROM orders
+        LEFT JOIN kept.wanted ON number = orders.id WHERE orders.id >= ? ORDER BY orders.id"""
+    assert rows(room / "copy.db", from_first, ordered[0][0], kept=office.kept / "ordered.db") == ordered
+
+
+def order_from(reader, box):
+    """The number of a reader's order of a box, from the page of the unit behind it."""
+    return int(re.search(' data-number="([0-9]+)"', reader.ask("/my/order", f"container={box + 1}-{box}").text)[1])
+
+
+def cancel(asks, reader, order):
+    """Cancels an order on My orders or, without a reader, at the desk."""
+    if reader:
+        assert "is cancelled" in reader.ask("/my/cancel", f"order={order}").text
+    else:
+        asks.command("/desk/cancel", order=order)
+
+
+def pass_a_day(office, room, is_copied):
+    """Makes what readers have cancelled older, and the register as in a night with a copy."""
+    place = Namespace(my=office.folder / "my.state")
+    with tools() as my_cards, my_cards.opened(place.my / my_cards.TABLE) as table:
+        table.execute("UPDATE cancelled SET at = at - 86400")
+        lines = [*my_cards.lines(place), (office.folder / "log-desk.log").read_text()]
+    if is_copied:
+        office.copy_store(room / "copy.db")
+        command = [TOP / "packaging/lists/record-office-register", room / "register.db", "--copy", room / "copy.db"]
+        subprocess.run(command, input="".join(lines), text=True, check=True, capture_output=True)
+
+
+def rows(path, select, *values, **more):
+    """Rows of a file of SQLite; more: further files by the names by which they are selected from."""
+    with contextlib.closing(sqlite3.connect(path)) as db:
+        for name, other in more.items():
+            db.execute(f"ATTACH ? AS {name}", (str(other),))
+        return db.execute(select, values).fetchall()
 
 
 def test_who_wants_it_is_told_once_that_a_box_is_ready_by_the_operators_command(desk_state, asks, office, room):
@@ -439,8 +473,10 @@ def test_the_printed_code_leads_a_phone_without_scripts_to_orders_and_back(brows
 
 @pytest.mark.browser
 @pytest.mark.needs("chromium")
-def test_what_was_collected_is_ordered_without_a_number(browser, desk_state, office):
+def test_what_was_collected_is_ordered_without_a_number(browser, desk_state, desk, office):
+    """And the desk sees for which unit it is, wherever it sees the order."""
     ann = desk_state.readers()[0]
+    office.copy_store("office-2024-03-01.db")
     with browser.tab(office.public) as hall:
         hall.visit(f"/my/{desk_state.secret(ann)}").see("No order is waiting")
         hall.visit(f"/unit/{desk_state.unit('Minutes')}").press("Collect it, to order later")
@@ -449,3 +485,9 @@ def test_what_was_collected_is_ordered_without_a_number(browser, desk_state, off
         hall.see("It waits, and you are next.")
         order = next(iter(desk_state.orders_of(ann)))
         hall.visit("/ordered").see(f"order {order}")
+    for address in (f"/readers/{ann}", "/orders"):
+        desk.at(address).see(WANTED)
+    desk.at("/runs").press("Begin a run")
+    desk.see(WANTED, ".beside")
+    desk.press("Call slips to cut")
+    desk.see(WANTED, ".call-slip")

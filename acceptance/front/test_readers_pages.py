@@ -9,9 +9,12 @@ import re
 
 import alphabet
 import asking
+import cards
 import languages
+import my_orders
 import pages as module
 import pytest
+import service
 import turns
 
 from acceptance import client, reference_model
@@ -222,6 +225,46 @@ def orders_of_list(stage, pages, note, first):
     stage.played.answers["/public/orders"] = client.reply(200, b'{"order":78}')
     pages.ask("/ordered/order", [("ticket", 2), *(("container", f"999-{n}") for n in range(1, 53))])
     pages.ask("/ordered/order", [("ticket", 2), *(("container", f"{note}-{n}") for n in range(1, 3))] * 70)
+
+
+def test_my_orders(stage, approved, room, monkeypatch):
+    """Nothing yet; what came of orders and of cancelling; what waits, is ready and is out; without the office or a secret."""
+    (room / "key").write_bytes(bytes(32))  # so that secrets are the same each time
+    mine = my_orders.MyOrders(stage.folder / "office.sock", None, cards.Cards(room), stage.service.pages.layouts, 6, True)
+    monkeypatch.setattr(my_orders, "time", stage.clock)
+    monkeypatch.setattr(stage, "service", service.Answering(mine))
+    pages, answers, secret, unit = Pages(stage), stage.played.answers, mine.cards.secret(1), stage.note + 1
+
+    def my(path="", *form, ticket=1, **headers):
+        pages.ask(f"/my{path}", *form, record_office_secret=mine.cards.secret(ticket), **headers)
+
+    pages.ask("/my")
+    pages.ask(f"/my/{secret}")
+    pages.ask(f"/my/{secret[:-1]}")
+    my()
+    assert stage.played.office.post("/public/orders", f'{{"ticket": 2, "container": {TIN + 1}}}'.encode())[0] == 200
+    my("/order", [("container", f"{unit}-{TIN}")])
+    my("/order", [("container", f"{unit}-{box}") for box in (TIN, TIN + 1, 14)])
+    stage.command("run")
+    my(accept_language="fr")
+    stage.command("seat", ticket=1)
+    stage.command("issue", ticket=1, container=TIN)
+    my()
+    my("/order", [("container", f"{unit}-14")])
+    my("/order", [])
+    my("/message", [("wanted", "1")])
+    my("/cancel", [("order", "1")])  # another reader's
+    answers["/desk/cancel"] = GATEWAY
+    my("/cancel", [("order", "3")])
+    answers.clear()
+    answers[f"/desk/queue/{TIN}"] = UNREACHED
+    my("/cancel", [("order", "3")])
+    my()
+    answers.clear()
+    my("/cancel", [("order", "3")])
+    my("/leave", [])
+    my(ticket=4)  # which has ended
+    approved("readers/my_orders", pages.lines)
 
 
 def test_pages_that_are_not_of_a_unit(stage, approved):

@@ -31,8 +31,7 @@ def make_lists(office):
     """The lists of a copy that is made now, with the register of what the desk's log has, as the nightly backup makes them."""
     lists, copy, register = (office.folder / name for name in ("cache/lists", "copy.db", "register.db"))
     lists.mkdir(parents=True, exist_ok=True)
-    with office.without_program():
-        subprocess.run(["sqlite3", office.store, f".backup {copy}"], check=True)
+    office.copy_store(copy)
     log = office.folder / "log-desk.log"
     with log.open("rb") as lines:
         subprocess.run([LISTS / "record-office-register", register], stdin=lines, check=True, capture_output=True)

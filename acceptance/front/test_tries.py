@@ -118,14 +118,7 @@ def copy(office):
     """The copy of the night, and no other; and no file was imported since."""
     for path in (*office.copies.iterdir(), *office.kept.iterdir()):
         path.unlink()
-    return make_copy(office)
-
-
-def make_copy(office):
-    """Makes a copy as the backup does, while nothing has the office open."""
-    with office.without_program():
-        subprocess.run(["sqlite3", office.store, f".backup {office.copies / NIGHT}"], check=True)
-    office.wait_for(office.public + "/public/fonds")
+    office.copy_store(NIGHT)
     return office.copies / NIGHT
 
 
@@ -279,7 +272,7 @@ def test_20000_changes_are_told_within_a_minute_of_the_processor(new_office, mod
             for number in range(1, 20001)]
     (module_room / "large.csv").write_text(csv_text(*rows))
     office = new_office(tries=True, files=[(SOURCE, module_room / "large.csv")])
-    make_copy(office)
+    office.copy_store(NIGHT)
     again = csv_text(*({**row, "title": f"{row['title']} again"} for row in rows))
     told = json.loads(Asks(office).send("POST", f"/try/differences/{SOURCE}", again, True)[1])
     assert len(told["differences"]) == 20000

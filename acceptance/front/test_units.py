@@ -101,6 +101,12 @@ def test_what_my_orders_needs_of_the_queue():
     assert " --messages=${READY_COMMAND}" in begin and " --words ${RUNTIME_DIRECTORY}/office.json " in begin
 
 
+def test_each_service_of_readers_tells_the_desk_by_a_socket_of_its_own_what_was_ordered():
+    told = [re.search(r" --desk (\S+)", SERVICES[f"record-office-{unit}"]["ExecStart"][0])[1] for unit in ("readers", "my")]
+    taken = SERVICES["record-office-try"]["ExecStart"][0].replace("${RUNTIME_DIRECTORY}", "/run/record-office-try")
+    assert taken.endswith(f" --ordered {' '.join(told)}") and len({*told}) == 2
+
+
 def test_the_desk_has_two_files_for_each_connection():
     files = re.findall(r"worker_rlimit_nofile (\d+);", SERVER["desk-main.conf"])
     assert SERVICES["record-office-desk"].get("LimitNOFILE") == files

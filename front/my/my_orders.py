@@ -1,7 +1,7 @@
 """My orders: what the secret of a ticket shows of it and lets its reader do, for readers' nginx; and for the desk's, the
 address that has this secret, and its code.
 
-    my_orders.py --queue SOCKET --state FOLDER --listen FOLDER [--words FILE] [--orders MANY] [--messages]
+    my_orders.py --queue SOCKET --state FOLDER --listen FOLDER [--words FILE] [--orders MANY] [--desk SOCKET] [--messages]
 
 Readers ask at my.sock: GET /my/SECRET leads to /my with a cookie, which shows what waits (and how many are before it), is
 ready or is out. POST /my/order, /my/cancel, /my/message and /my/leave do what they say. Whatever is wrong with a secret, the
@@ -44,10 +44,11 @@ MESSAGES = {True: N_("You will get a message when something is ready."), False: 
 
 
 class MyOrders:
-    """The pages. queue: the queue's socket for this service; cards: the secrets; messages: whether the operator sends any."""
+    """The pages. queue: the queue's socket for this service; desk: that where the desk is told what was ordered; cards: the
+    secrets; messages: whether the operator sends any."""
 
-    def __init__(self, queue, cards, layouts, a_minute, messages):
-        self.queue, self.cards, self.layouts, self.row = queue, cards, layouts, orders.Row(a_minute)
+    def __init__(self, queue, desk, cards, layouts, a_minute, messages):
+        self.queue, self.desk, self.cards, self.layouts, self.row = queue, desk, cards, layouts, orders.Row(a_minute)
         self.messages, self.idle = messages, Idle(queue, KEPT)
 
     def asking(self, _, left=SOON):
@@ -115,7 +116,7 @@ class MyOrders:
         items = orders.read_items(request.form)
         if not items:
             return self.show(request, card, outcome={"wrong": orders.NO_BOX, "done": [], "taken": []})
-        done = orders.give(self.queue, self.row, request.address, card["ticket"], items)
+        done = orders.give(self.queue, self.desk, self.row, request.address, card["ticket"], items)
         outcome = {"done": done, "taken": [one for one in done if one.order], "ticket": card["ticket"]}
         return self.again(request, card, outcome=outcome)
 
@@ -217,12 +218,13 @@ def main():
     words.add_argument("--listen", required=True, type=pathlib.Path, help="the folder for the sockets where both nginx ask")
     words.add_argument("--words", type=pathlib.Path, default=pathlib.Path("/etc/record-office/office.json"),
                        help="the office's own words")
+    words.add_argument("--desk", type=pathlib.Path, help="the socket where the desk's own service is told what was ordered")
     words.add_argument("--orders", type=float, default=6, help="orders a minute that one address may give")
     words.add_argument("--messages", default="", help="if it is not empty, readers may ask for messages")
     given = words.parse_args()
     signal.signal(signal.SIGTERM, lambda *_: sys.exit(0))
     layouts = Layouts(languages.load(), given.words)
-    pages = MyOrders(given.queue, Cards(given.state), layouts, given.orders, bool(given.messages))
+    pages = MyOrders(given.queue, given.desk, Cards(given.state), layouts, given.orders, bool(given.messages))
     for name, app in (("my", Answering(pages).app), ("cards", Desk(pages).app)):
         listener = processes.open_socket(given.listen / f"{name}.sock")
         threading.Thread(target=processes.serve, args=(app, listener, 8), daemon=True).start()

@@ -74,14 +74,16 @@ def read_items(form, unit=None):
     return list(items.items())[:MOST]
 
 
-def give(queue, row, address, ticket, items):
+def give(queue, desk, row, address, ticket, items):
     """Orders one container after the other: what came of each. Once the ticket or the office stands in the way, the
-    others are told the same untried."""
+    others are told the same untried. desk: the socket where the desk's own service is told what was ordered, or None."""
     done, told, goes_on = [], None, True
     for box, unit in items:
         if goes_on:
             told, goes_on = give_one(queue, ticket, box) if row.takes(address) else ((None, OFTEN), False)
         done.append(Done(box, unit, *told))
+    if desk:
+        tell_desk(desk, ticket, done)
     return done
 
 

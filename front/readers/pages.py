@@ -277,9 +277,7 @@ class Pages:
         if not ticket or not items:
             return {"wrong": orders.NO_BOX if ticket else orders.NO_TICKET, "done": [], "taken": [],
                     "typed": dict(request.form).get("ticket", "")}
-        done = orders.give(self.queue, self.row, request.address, ticket, items)
-        if self.desk:
-            orders.tell_desk(self.desk, ticket, done)
+        done = orders.give(self.queue, self.desk, self.row, request.address, ticket, items)
         request.ask.until = max(request.ask.until, time.monotonic() + 1)  # for the page that tells it
         return {"done": done, "taken": [one for one in done if one.order], "ticket": ticket}
 

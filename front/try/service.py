@@ -1,10 +1,10 @@
 """What is to be seen in a file and what its import would change, and what a colleague has in hand: answers for nginx.
 
-    service.py --copies FOLDER --files FOLDER --listen SOCKET [--ordered SOCKET] [--program PROGRAM]
+    service.py --copies FOLDER --files FOLDER --listen SOCKET [--ordered SOCKET ..] [--program PROGRAM]
 
 POST /try/find, with what somebody typed as its body, is answered with the JSON of finding.py and the time of the copy.
 POST /try/boxes, with numbers as JSON, is answered with where these boxes belong, and what in them is not open to all.
-POST /try/ordered keeps what ordered.py describes; the readers' service tells the same by the second socket.
+POST /try/ordered keeps what ordered.py describes; readers' service and My orders tell the same, each by a socket of its own.
 POST /try/wanted, with order, ticket and container of each of some orders as JSON, is answered with the units they are for.
 POST /try/look, with a file as its body, is answered with the JSON of look_for_page.py, which runs by itself, within bounds;
 /try/look/Windows-1253/dates chooses an encoding, and has dates filled in.
@@ -130,13 +130,13 @@ def main():
     words.add_argument("--copies", type=pathlib.Path, required=True, help="the folder of the backup's copies")
     words.add_argument("--files", type=pathlib.Path, required=True, help="where the last file of each source is kept")
     words.add_argument("--listen", required=True, help="the socket for nginx")
-    words.add_argument("--ordered", type=pathlib.Path, help="the socket where the readers' service tells what was ordered")
+    words.add_argument("--ordered", type=pathlib.Path, nargs="*", default=[], help="sockets where others tell what was ordered")
     words.add_argument("--program", default="record_office", help="default: record_office")
     given = words.parse_args()
     signal.signal(signal.SIGTERM, lambda *_: sys.exit(0))
     service = Service(given.copies, given.files, given.program)
-    if given.ordered:
-        threading.Thread(target=service.ordered.listen, args=(given.ordered,), daemon=True).start()
+    for path in given.ordered:
+        threading.Thread(target=service.ordered.listen, args=(path,), daemon=True).start()
     waitress.serve(service.app, unix_socket=given.listen, unix_socket_perms="660", threads=8, ident=None,
                    channel_timeout=120, max_request_body_size=LARGEST_FILE + 1, clear_untrusted_proxy_headers=True)
 

@@ -1,7 +1,7 @@
 -- The lists for the staff. record-office-lists runs each SELECT over a copy of the office, and makes a page and a CSV file.
 --
 -- Before a SELECT stand its name, its title, what is said above it, and for which part of the staff it is, as in nginx's
--- desk-parts.conf (for who has all parts, unless it is told). What is drawn of it, for each year of its first column: the column
+-- desk-parts.conf (for who has all parts, unless it is told). What is drawn of it, for each year of its first column: the columns
 -- of labels, and those of numbers. Its columns are named as the page shows them. Names of readers stand only in lists that are for
 -- finding a reader. To change a list, or to add one, change a copy of this file.
 --
@@ -16,7 +16,7 @@
 -- parent are NULL if the file has no such column), and event what the desk's log has of seats, issues, returns, days and what was
 -- cancelled: `what`, when (`time`, and `at` in seconds), by whom of the `staff`, and whether it was surely done (is_sure). refused
 -- has how `many` orders were refused on a day, for which container and why, by the name in docs/RULES.md.
--- The function day() writes a day as a date, and title() finds the title of a unit.
+-- The function day() writes a day as a date, title() finds the title of a unit, and reason() has a refusal in words.
 
 -- list: drafts
 -- title: Drafts
@@ -331,14 +331,25 @@ ORDER BY year DESC, rank;
 -- draw: Why | Orders
 -- about: Of the readers' pages and the desk's, by the clock of the front; one that was sent again counts again. Orders of other
 --     programs are not known, nor are those from before the desk's service has kept them.
-WITH reason (why, name) AS (
-    VALUES ('UnknownTicket', 'no such ticket'), ('TicketExpired', 'ticket expired'), ('AlreadyOrdered', 'ordered already'),
-        ('NotAvailable', 'not open, or no such box'), ('DailyLimit', 'limit of the day'), ('Full', 'office full')
-)
-SELECT substr(day, 1, 4) AS "Year", coalesce(name, why) AS "Why", sum(many) AS "Orders"
-FROM refused LEFT JOIN reason USING (why)
+SELECT substr(day, 1, 4) AS "Year", reason(why) AS "Why", sum(many) AS "Orders"
+FROM refused
 GROUP BY 1, why
 ORDER BY 1 DESC, 3 DESC, 2;
+
+-- list: year-refusals
+-- title: Orders that were refused, by archive
+-- part: counter
+-- draw: Why, Title | Orders
+-- about: As for the whole office. A container counts for each archive whose units name it now, so the sum may be greater; containers that no unit
+--     names stand without an archive.
+WITH archives AS (
+    SELECT DISTINCT housing.container, place.archive FROM housing JOIN place USING (unit)
+)
+SELECT substr(day, 1, 4) AS "Year", reason(why) AS "Why", coalesce(place.code, '') AS "Archive",
+    coalesce(title(archives.archive), place.code, 'without an archive') AS "Title", sum(many) AS "Orders"
+FROM refused LEFT JOIN archives USING (container) LEFT JOIN place ON place.unit = archives.archive
+GROUP BY 1, why, archives.archive
+ORDER BY 1 DESC, 2, place.number IS NULL, place.number;
 
 -- list: year-archives
 -- title: A year by archive
