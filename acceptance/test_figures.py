@@ -1,17 +1,19 @@
 """The figures of a year of 250 days, with orders, events and refusals at random: each number counted by another way, row by
-row, and drawn; and no name of a reader in any."""
+row, and drawn; and no name of a reader in any. And a year that the program plays, with what OPERATING has an answer for."""
 
 import contextlib
 import csv
 import datetime
 import random
+import re
 import sqlite3
 import xml.etree.ElementTree as ET
 from collections import Counter
+from pathlib import Path
 
 import pytest
 
-from acceptance import client
+from acceptance import client, operating
 from acceptance.test_lists import make_lists
 
 SVG = "{http://www.w3.org/2000/svg}"
@@ -138,3 +140,52 @@ def test_each_number_of_a_year_is_right_and_drawn(made, name, label, drawn, coun
         assert widths == pytest.approx([number / max(numbers) * max(widths) for number in numbers], abs=1)
         shown = [one.text for one in picture.iter(f"{SVG}text")]
         assert all({title, f"{title[:35]}…"} & {*shown} for title, *_ in own), "each has its label"
+
+
+HAPPENS = dict(client.table(Path(__file__).with_name("happens.txt")))
+
+
+class Desk:
+    """A desk where the steps of happens.txt are taken. past: days since the first; done: how often each command was done."""
+
+    def __init__(self, office):
+        self.office, self.session, self.past, self.done, self.numbers = office, office.session(), 0, Counter(), {}
+
+    def take(self, steps):
+        for what, who, box, refused in re.findall(r"(\w+)(?: ([A-C]))?(?: (\d))?(?: (\w{3,}))?(?:, +|$)", steps):
+            if what == "mend":  # the day, by SQL, with the program stopped
+                self.session.process.communicate()
+                with contextlib.closing(sqlite3.connect(self.office.store, isolation_level=None)) as db:
+                    db.execute("UPDATE office SET day = unixepoch(?, ?) / 86400", (f"{FIRST}", f"{self.past} days"))
+                self.session = self.office.session()
+                continue
+            number, day = int(box or 1), FIRST + datetime.timedelta(self.past + int(box or 1))
+            body = {"ticket": self.numbers.get((who, ""), 0), "order": self.numbers.get((who, box), 0), "container": number,
+                    "unit": number + 2, "name": who, "day": f"{day}", "until": f"{2020 if what == 'renew' else 2030}-12-31"}
+            told = self.session.ask(client.post(client.path_of(what), body)).json()
+            assert told.get("refused", "") == refused, (day, steps, what, who, box, told)
+            self.done[what] += not refused
+            self.past += (what, box, refused) == ("day", "", "")
+            self.numbers |= {(who, box): told[kind] for kind in ("ticket", "order") if kind in told}
+        self.numbers["A", ""] = self.numbers.pop(("C", ""), self.numbers["A", ""])
+
+
+def test_each_day_has_an_answer_for_what_happens(program, room):
+    settings = client.SETTINGS | {"daily": "50", "run": "50", "day": f"{FIRST}"}
+    office = client.Office.create(program, room / "office.db", settings)
+    (room / "file.csv").write_text(FILE)
+    office.import_file("a", room / "file.csv").expect_success()
+    desk, dice = Desk(office), random.Random(7)
+    desk.take("register A, register B, closure 4, permit A 4")
+    while desk.past < 250:
+        happens, box = dice.choice([*HAPPENS]), dice.choice("789")
+        desk.take(f"day, seat A, seat B, orders B {box}, run, issue B {box}, return {box}")
+        desk.take(f"{HAPPENS[happens]}, reshelve")
+        desk.done[happens] += 1
+    desk.session.process.communicate()
+    assert office.check() == client.SOUND and min(desk.done[happens] for happens in HAPPENS) > 9
+    with contextlib.closing(sqlite3.connect(office.store)) as db:
+        ended = dict(db.execute("SELECT state, count(*) FROM orders GROUP BY state"))
+    assert ended == {3: desk.done["return"], 4: desk.done["cancel"]}, "each order ended as somebody meant it"
+    answers = operating.DOCUMENT.read_text("utf-8").partition("**Otherwise:**")[2]
+    assert re.findall(r"^- \*(.*):\* ", answers, re.M)[:len(HAPPENS)] == [*HAPPENS]

@@ -32,7 +32,7 @@ done
 root_with ''
 cp /etc/resolv.conf "$root/etc/resolv.conf"
 cp "$deb" "$root/root/record-office.deb"
-cp "$here/../acceptance/version1.db" "$here"/{try_back.sh,try_alarms.sh,try_registers.sh,try_limits.sh,try_checks.sh,try_inside.sh,try_readers.sh,try_busy.py} "$root/root"
+cp "$here/../acceptance/version1.db" "$here"/{try_back.sh,try_alarms.sh,try_registers.sh,try_limits.sh,try_checks.sh,try_inside.sh,try_readers.sh} "$root/root"
 cp "$here/../examples/archives.csv" "$root/root"
 # The next commit, in which each file that the package brings to /etc has changed, and a page without another size.
 next=$room/three/tree

@@ -66,6 +66,8 @@ sites() {
     same 'without TLS readers are sent on' "$($ask -o /dev/null -w '%{http_code} %{redirect_url}' http://archive.example.org/)" '301 https://archive.example.org/'
     same 'a browser keeps to TLS' "$($ask -o /dev/null -D - https://archive.example.org/ | grep -o 'strict.*=[0-9]*')" 'strict-transport-security: max-age=31536000'
     same 'of an address the network alone is logged, at port 80 too' "$(grep -cv '^\(127\.0\.0\|0\.0\.0\)\.0 ' /var/log/nginx/access.log)" 0
+    same 'the cookie of My orders is for TLS alone' "$($ask -o /dev/null -D - "https://archive.example.org/my/$($ask -u desk:quiet-paper \
+        https://desk.example.org:8443/my/1 | sed 's#.*/my/\([^"]*\)".*#\1#')" | grep -ci '^set-cookie: my=1-.*; secure')" 1
     is 'another name gets no certificate' sh -c "$ask -S -k https://other.example.org:8443/ 2>&1 | grep 'unrecognized name'"
     cp /usr/share/record-office/own/desk-nginx.conf /etc/record-office/
     systemctl restart record-office-desk
@@ -107,6 +109,7 @@ second() {
     same 'each has a password of its own' "$(status -u desk:quiet-water http://127.0.0.1:8181/desk/issued) \
 $(status -u desk:quiet-paper http://127.0.0.1:8181/desk/issued) $(status -u desk:quiet-water $desk/desk/issued)" '200 401 401'
     is 'its units are found' sh -c "for i in \$(seq 90); do curl -s '$harbour/public/search?q=minutes' | grep -q 'GB 0998' && exit 0; sleep 1; done; exit 1"
+    same 'each has secrets of its own' "$(curl -s -u desk:quiet-water http://127.0.0.1:8181/my/1 | grep -c "$(curl -s -u desk:quiet-paper $desk/my/1 | grep -o '1-[a-z0-9]*')")" 0
     sed -i 's/"name": .*/"name": "Harbour office",/' $settings/office.json
     systemctl restart record-office-readers@harbour
     is 'it has words of its own' sh -c "curl -s $harbour/ | grep 'Harbour office' && ! curl -s $readers/ | grep 'Harbour office'"
@@ -138,6 +141,15 @@ fails() {
     systemctl reset-failed record-office-backup
 }
 
+# busy WHAT ARGUMENT ..: four clients ask for twenty seconds; a line for each answer with its status and how long it took
+busy() {
+    local what=$1 end=$((SECONDS + 20)) _
+    for _ in 1 2 3 4; do
+        (while [ $SECONDS -lt $end ]; do curl -s -o /dev/null -m 200 -w "$what %{http_code} %{time_total}\n" "${@:2}"; sleep 0.1; done) &
+    done
+    wait
+}
+
 # The backup: by its timer beside a busy front, what it keeps, elsewhere, how it fails; and back to a copy.
 backups() {
     local before pid timer=/run/systemd/system/record-office-backup.timer.d/soon.conf
@@ -145,16 +157,16 @@ backups() {
     [ -d $copies ] || install -d -o record-office -g record-office -m 700 $copies
     for day in $(seq 0 365); do date -d "2020-01-01 $day days" "+$copies/office-%F.db"; done | xargs touch
     before=$(curl -s -u desk:quiet-paper $desk/desk/readers/1 | grep -c ticket)
-    python3 /root/try_busy.py 20 >/tmp/busy &
+    (busy questions $readers/public/units/1 & busy registrations -u desk:quiet-paper -d '{"name":"Busy","until":"2030-12-31"}' $desk/desk/register; wait) >/tmp/busy &
     pid=$!
     sleep 3
     mkdir "${timer%/*}"
     printf '[Timer]\nOnCalendar=\nOnActiveSec=1\nAccuracySec=1\n' >$timer
     systemctl daemon-reload && systemctl restart record-office-backup.timer
     wait $pid
-    cat /tmp/busy
+    sort /tmp/busy | cut -d' ' -f1,2 | uniq -c
     is 'the timer made a backup' test -s "$copies/office-$today.db"
-    is 'beside it each question and each command was answered' sh -c '! grep -v "^[a-z]* [0-9]* of 200$" /tmp/busy | grep -v ^longest'
+    same 'beside it each question and each command was answered' "$(grep -v ' 200 ' /tmp/busy)" ''
     rm -r "${timer%/*}" && systemctl daemon-reload && systemctl restart record-office-backup.timer
     same 'what is kept of a year' "$(find $copies -name 'office-*.db' ! -name "*$today*" -printf '%f\n' | sort | sed 's/office-2020-//; s/.db//' | xargs)" \
         '02-29 03-31 04-30 05-31 06-30 07-31 08-31 09-30 10-31 11-30 12-20 12-26 12-27 12-28 12-29 12-30 12-31'
@@ -163,7 +175,7 @@ backups() {
     # shellcheck disable=SC2016  # the backup expands it
     printf 'COPY_FOLDER=/srv/other\nCOPY_COMMAND='"'"'cp "$1" /srv/by-command.db'"'\n" >/etc/record-office/backup.conf
     is 'a backup to another folder and by a command' systemctl start record-office-backup
-    same 'each reader who got a ticket is in it' "$(query 'SELECT count(*) FROM reader')" $((before + $(sed -n 's/registrations \([0-9]*\) .*/\1/p' /tmp/busy)))
+    same 'each reader who got a ticket is in it' "$(query 'SELECT count(*) FROM reader')" $((before + $(grep -c '^registrations 200' /tmp/busy)))
     is 'the copies are the same' cmp "$copies/office-$today.db" "/srv/other/office-$today.db"
     is 'by the command too' cmp "$copies/office-$today.db" /srv/by-command.db
     same 'the staff see the lists' "$(status -u desk:quiet-paper $desk/lists/) $(status $desk/lists/drafts.csv) $(status $readers/lists/)" '200 401 404'
@@ -257,7 +269,6 @@ after() {
     is 'an archive of the second file is told' sh -c "curl -s $readers/public/fonds | grep -q 'Hull Dock Company'"
     is 'and its units are found, within two rounds' sh -c \
         "for i in \$(seq 150); do curl -s '$readers/public/search?q=kingsford' | grep -q Kingsford && exit 0; sleep 1; done; exit 1"
-    is 'the search has no network' sh -c "nsenter -t $(systemctl show -p MainPID --value record-office-readers) -n ip -br link 2>/dev/null | grep -vq '^lo' && exit 1; exit 0"
     same 'the office is its user'"'"'s alone, by its folder' "$(stat -c '%U %a' /var/lib/record-office)" 'record-office 700'
 
     restarts=$(systemctl show -p NRestarts --value record-office)
@@ -265,7 +276,6 @@ after() {
     same 'a reader who asks while the program is begun again' "$(status $readers/public/fonds)" 200
     is 'it was begun again' test "$(systemctl show -p NRestarts --value record-office)" -gt "$restarts"
     same 'no process may get new rights' "$(grep -h NoNewPrivs "/proc/$(systemctl show -p MainPID --value record-office)/status" | cut -f2)" 1
-    systemd-analyze security --no-pager "${units[@]}" 2>/dev/null | grep -i overall || true
 
     same 'each end of the program was asked for' "$(journalctl --no-pager -o cat -u record-office | grep -c '^the program ended: killed KILL')" \
         "$(journalctl --no-pager -o cat -u record-office | grep -c '^the program ended: ')"

@@ -25,7 +25,6 @@ answers() {
     is 'the search finds a word of the first archive' found "$(word)"
     same 'the box is there: a question without words is answered' "$(status "$readers/public/search?")" 200
     same 'nginx logs no search' "$(grep -c /public/search /var/log/nginx/access.log)" 0
-    same 'of an address it logs the network' "$(grep -cv '^\(127\.0\.0\|0\.0\.0\)\.0 ' /var/log/nginx/access.log)" 0
 }
 
 stops() {

@@ -1,5 +1,6 @@
 #!/usr/bin/env bash
-# try.sh calls this inside its booted root once there is an office: a reader is erased, and boxes get other places.
+# try.sh calls this inside its booted root once there is an office: a reader is erased, boxes get other places, and My orders and
+# the desk's services are used as readers and colleagues do.
 set -uo pipefail
 office=/var/lib/record-office/office.db
 copy=/var/backups/record-office/office-$(date +%F).db
@@ -25,7 +26,8 @@ twice() {
 }
 
 # wanted TICKET: the units that the orders of a ticket are for
-wanted() { sqlite3 /var/lib/record-office-try/ordered.db "SELECT unit FROM wanted WHERE ticket = $1"; }
+wanted() { sqlite3 -readonly /var/lib/record-office-try/ordered.db "SELECT unit FROM wanted WHERE ticket = $1"; }
+knows() { [ "$(wanted "$1")" = "$2" ]; }
 
 # A reader who has a closed box by a permit, and whose name stands in a list, a copy and an office that was put aside.
 reader() {
@@ -36,7 +38,7 @@ reader() {
     ask closure '{"unit":2,"until":"2030-01-01"}' >/tmp/said
     ask permit "{\"ticket\":$ticket,\"unit\":2,\"until\":\"2030-01-01\"}" >/tmp/said
     curl -s -d "ticket=$ticket&container=1" http://127.0.0.1:8080/unit/2/order >/tmp/said
-    same 'the desk knows which unit was wanted' "$(wanted "$ticket")" 2
+    is 'the desk knows which unit was wanted' waits knows "$ticket" 2
     ask run '' >/tmp/said
     ask seat "{\"ticket\":$ticket}" >/tmp/said
     same 'the box is out by permit' "$(ask issue "{\"ticket\":$ticket,\"container\":1}" | cut -c1-9)" '{"order":'
@@ -112,6 +114,54 @@ boxes() {
     is 'all goes back' record-office-relocate /root/back.csv
 }
 
+# mine PATH [ARGUMENT ..]: what My orders answers to a browser that keeps its cookie; leads SECRET: the status of this address
+mine() { curl -s -b /tmp/jar -c /tmp/jar "http://127.0.0.1:8080/my$1" "${@:2}"; }
+shows() { mine "${@:2}" | grep "$1"; }
+leads() { mine "/$1" -o /dev/null -w '%{http_code}'; }
+
+# card TICKET [ARGUMENT ..]: what the desk is told of a ticket's address; secret TICKET: what follows /my/ in it
+card() { curl -s -u desk:quiet-paper "$desk/my/$1" "${@:2}"; }
+secret() { card "$1" | sed 's#.*/my/\([^"]*\)".*#\1#'; }
+
+# My orders by the address on a ticket, of which a command tells what is ready; and what its service can reach.
+my_orders() {
+    local ticket old queue=/run/record-office-queue/my unit=record-office-my
+    ticket=$(ask register '{"name":"Mo","until":"2030-12-31"}' | tr -cd 0-9)
+    sed -i '1s#{#{ "site": "http://127.0.0.1:8080",#' /etc/record-office/office.json
+    echo "READY_COMMAND='cat >>/root/ready'" >/etc/record-office/my-orders.conf
+    systemctl restart record-office-readers $unit
+    old=$(secret "$ticket")
+    same 'the code of a ticket leads to a page' "$(card "$ticket" | grep -c '"path"') $(leads "$old")" '1 302'
+    is 'where a reader orders' shows Ordered /order -d container=3-2
+    is 'and wants to be told' shows 'You will get a message' /message -d wanted=1
+    ask run '' >/tmp/said
+    is 'what is ready is shown' shows 'class="state ready"' ''
+    systemctl start record-office-probe
+    systemctl start record-office-probe
+    same 'and told once' "$(cat /root/ready)" "$ticket"
+    is 'the reader cancels' shows 'is cancelled' /cancel -d "order=$(ask "readers/$ticket" | sed 's/.*"order":\([0-9]*\).*/\1/')"
+    systemctl start record-office-backup
+    is 'which the register has' grep 'the reader' $lists/cancelled.csv
+    card "$ticket" -X POST >/tmp/said
+    same 'a new address voids the old one' "$(leads "$old") $(leads "$(secret "$ticket")")" '404 302'
+    same 'which no log has' "$(cat /var/log/nginx/*.log | grep -c "$old")" 0
+    same 'the key and the way to the queue are its own' "$(stat -c '%G %a' /var/lib/$unit/key $queue $queue/queue.sock | xargs)" "$unit 600 $unit 2710 $unit 660"
+    is 'it sees neither the office nor the passwords' hidden "$(systemctl show -p MainPID --value $unit)" $office /etc/record-office/staff
+    systemctl disable -q --now $unit
+    same 'switched off there is no code, and nothing is red' "$(card "$ticket" -o /dev/null -w '%{http_code}') $(record-office-status | grep -c '^OK: my: .*switched off')" '204 1'
+    systemctl enable -q --now $unit
+    cp /usr/share/record-office/own/{office.json,my-orders.conf} /etc/record-office/
+    systemctl restart record-office-readers $unit
+}
+
+# What a colleague has in hand is found in the copy of the night.
+found() {
+    is 'a title is found' sh -c "curl -s -u desk:quiet-paper -d 'plans locks' $desk/try/find | grep '\"Plans of the locks\"'"
+    is 'and where a box belongs' sh -c "curl -s -u desk:quiet-paper -d '[2]' $desk/try/boxes | grep '\"Strongroom 1\"'"
+}
+
 reader
 tries
+my_orders
+found
 boxes

@@ -57,8 +57,10 @@ class Ordered:
                 AND container = json_extract(value, '$[2]') ORDER BY number""", (orders,)).fetchall()
 
     def listen(self, path):
-        """Takes what comes to a socket, which answers nobody. Never returns."""
+        """Takes what comes to a socket, which answers nobody. Never returns. Others read the tables: there are some at once."""
         path.unlink(missing_ok=True)
+        with contextlib.suppress(sqlite3.Error), self.opened():
+            pass
         with socket.socket(socket.AF_UNIX, socket.SOCK_DGRAM) as it:
             it.bind(str(path))
             path.chmod(0o620)
