@@ -118,10 +118,7 @@ pub(crate) fn lines_out<P: Versioned, S: Alter>(
 }
 
 /// The orders of both lists, in ascending order of their numbers.
-fn by_number(
-    waiting: Vec<OrderLine>,
-    out: &[OrderLine],
-) -> Result<Vec<OrderLine>, AllocError>
+fn by_number(waiting: Vec<OrderLine>, out: &[OrderLine]) -> Result<Vec<OrderLine>, AllocError>
     ensures all { IfOk result (λ lines. IsPermutation (waiting.items ++ out.now) lines.items) }
     ensures order { IfOk result (λ lines. IsNonDecreasingBy (λ (line : OrderLine). line.order) lines.items) }
 {
