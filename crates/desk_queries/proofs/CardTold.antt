@@ -19,7 +19,7 @@ use Rattle.refinement.proofs.QueuesShown.{told_rows}
 use Rattle.desk_queries.proofs.Common.{Cancelled, Data, Done, End, ExactlyOne, IsFiled, IsSoundOffice, Order, OrderRow}
 use Rattle.desk_queries.proofs.Common.{Reader, State, UnknownTicket, Version, answer, card_data, codes, container_of}
 use Rattle.desk_queries.proofs.Common.{count, date, fields, filter_map, has_float, is_by, is_out_for, is_out_now}
-use Rattle.desk_queries.proofs.Common.{is_some, known_json, list, live_data, live_orders, map-map, nat_lt, no_float}
+use Rattle.desk_queries.proofs.Common.{is_some, known_json, list, live_data, live_orders, map-map, no_float}
 use Rattle.desk_queries.proofs.Common.{nth, option_map, or_null, order_from, order_json, order_row, order_rows}
 use Rattle.desk_queries.proofs.Common.{reader_json, rows_from, seat_of, some_and, stands, state_number, string, tables}
 use Rattle.desk_queries.proofs.Common.{waits}
@@ -38,8 +38,11 @@ card_whole c = at c.reader.seat
 
 -- ---- an order that has not ended waits or is out
 
+abbrev lives : ℕ → Bool
+lives n = nat_eq n 1 || nat_eq n 2
+
 live_is : (w h : Bool) (past : Option End) → ExactlyOne w h (is_some past)
-    → nat_lt (state_number (cond w (Some Waiting) (cond h (Some WithItsReader) (option_map Ended past)))) 3 ≡ (w || h)
+    → lives (state_number (cond w (Some Waiting) (cond h (Some WithItsReader) (option_map Ended past)))) ≡ (w || h)
 live_is true h past one = refl
 live_is false true past one = refl
 live_is false false None one = absurd one
@@ -113,9 +116,9 @@ module _ (version : Version) (s : State) (sound : IsSoundOffice s) (t : ℕ) whe
     one : ExactlyOne (stands m (s.queue x.container)) (is_out_for m (s.place x.container)) (is_some (s.past m))
     one = (subst (λ k. IsFiled k (λ c. stands m (s.queue c)) (λ c. is_out_for m (s.place c)) (s.past m)) for_it (sound.sound.desk.filed.each m)).0
 
-    live : nat_lt (state_number (standing s m)) 3 ≡ (waits s m || is_out_now s m)
+    live : lives (state_number (standing s m)) ≡ (waits s m || is_out_now s m)
     live =
-        subst (λ k. nat_lt (state_number (stands_as k (λ c. stands m (s.queue c)) (λ c. is_out_for m (s.place c)) (s.past m))) 3
+        subst (λ k. lives (state_number (stands_as k (λ c. stands m (s.queue c)) (λ c. is_out_for m (s.place c)) (s.past m)))
         ≡ (some_and (λ c. stands m (s.queue c)) k || some_and (λ c. some_and (nat_eq m) (order_out (s.place c))) k))
         (sym for_it) (live_is (stands m (s.queue x.container)) (is_out_for m (s.place x.container)) (s.past m) one)
 
@@ -134,7 +137,7 @@ module _ (version : Version) (s : State) (sound : IsSoundOffice s) (t : ℕ) whe
     tell_at : is_kept (order_row s m x) ≡ true → told m x ≡ live_data (live_of (order_row s m x))
     tell_at kept =
         ap (λ (name : Bytes). fields ((codes "container", count x.container) ∷ (codes "order", count m) ∷ (codes "state", string name) ∷ []))
-        (name_at (sym live ∙ (and_parts (nat_eq t x.ticket) (nat_lt (state_number (standing s m)) 3) kept).1))
+        (name_at (sym live ∙ (and_parts (nat_eq t x.ticket) (lives (state_number (standing s m))) kept).1))
 
   tests : (row : OrderRow) → StandsIn row (order_rows s) → is_theirs row.id ≡ is_kept row
   tests row k =

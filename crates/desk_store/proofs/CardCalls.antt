@@ -1,5 +1,5 @@
 -- A reader's card, and the holder of a ticket: the parts are read one after another, and nothing is changed between them.
-use Rattle.std.proofs.Common.{◌≡◌, ℕ, ℤ, suc, ◌<◌, ◌≤◌, ◌^◌, ◌&&◌, true, false, Bool, cond, nat_eq, List, [], ◌∷◌, map}
+use Rattle.std.proofs.Common.{◌≡◌, ℕ, ℤ, suc, ◌<◌, ◌≤◌, ◌^◌, ◌&&◌, ◌||◌, true, false, Bool, cond, nat_eq, List, [], ◌∷◌, map}
 use Rattle.std.proofs.Common.{filter, length, find, Option, Some, None, refl, sym, ap, subst, ◌∙◌, arith}
 use Rattle.std.proofs.lemmas.List.Sums.{length-filter, count_by-le-length}
 use Rattle.desk_core.proofs.Counts.{count_map}
@@ -7,10 +7,11 @@ use Rattle.desk_core.specs.declared.reader.Reader.{Reader}
 use Rattle.desk_store.specs.declared.reader_summary.ReaderCard.{ReaderCard}
 use Rattle.desk_store.specs.declared.readers.NamedReader.{NamedReader}
 use Rattle.desk_store.specs.declared.taken_seats.TakenSeat.{TakenSeat}
+use Rattle.office_tables.proofs.Rows.{filters, same_test}
 use Rattle.desk_store.proofs.Common.{Desk, OrderLine, OrderRow, SeatRow, card_of, count_by, has_not_ended, held_with}
-use Rattle.desk_store.proofs.Common.{is_some, length-map, most_orders, nat_lt, nat_tests, option_map, orders_not_ended}
+use Rattle.desk_store.proofs.Common.{is_some, length-map, most_orders, option_map, orders_not_ended}
 use Rattle.desk_store.proofs.Common.{placed_on, reader_with, seat_of_ticket, ticket_holder}
-use Rattle.desk_store.proofs.CardRows.{line_of}
+use Rattle.desk_store.proofs.CardRows.{in_state, line_of}
 use Rattle.desk_store.proofs.ReaderRows.{named}
 use Rattle.desk_store.proofs.SeatRows.{taken}
 
@@ -29,14 +30,13 @@ out_among = filter (λ (o : OrderRow). nat_eq o.state 2)
 one_more : (mine : Bool) (o : OrderRow) (live out : List OrderRow) → length (out_among live) ≡ length out
     → length (out_among (cond (mine && has_not_ended o) (o ∷ live) live)) ≡ length (cond (mine && nat_eq o.state 2) (o ∷ out) out)
 one_more false o live out same = same
-one_more true o live out same = by (nat_lt o.state 3) (nat_eq o.state 2) refl refl
+one_more true o live out same = by (nat_eq o.state 1) (nat_eq o.state 2) refl
   where
-    by : (x y : Bool) → nat_lt o.state 3 ≡ x → nat_eq o.state 2 ≡ y
-        → length (out_among (cond x (o ∷ live) live)) ≡ length (cond (nat_eq o.state 2) (o ∷ out) out)
-    by true true h k = rw k (ap suc same)
-    by true false h k = rw k same
-    by false true h k = absurd (grind (arith, nat_tests, h, k))
-    by false false h k = rw k same
+    by : (x y : Bool) → nat_eq o.state 2 ≡ y → length (out_among (cond (x || y) (o ∷ live) live)) ≡ length (cond (nat_eq o.state 2) (o ∷ out) out)
+    by true true k = rw k (ap suc same)
+    by true false k = rw k same
+    by false true k = rw k (ap suc same)
+    by false false k = rw k same
 
 same_out : (t : ℕ) (xs : List OrderRow)
     → length (out_among (filter (λ (o : OrderRow). nat_eq t o.ticket && has_not_ended o) xs)) ≡ length (filter (λ (o : OrderRow). nat_eq t o.ticket && nat_eq o.state 2) xs)
@@ -51,16 +51,28 @@ out_of_lines t xs =
     count_map (λ (l : OrderLine). nat_eq l.state 2) line_of kept ∙ sym (length-filter (λ (o : OrderRow). nat_eq o.state 2) kept)
     ∙ same_out t xs ∙ length-filter (λ (o : OrderRow). nat_eq t o.ticket && nat_eq o.state 2) xs
 
+-- or of those that are out alone
+out_twice : (mine out : Bool) → ((mine && out) && out) ≡ (mine && out)
+out_twice true true = refl
+out_twice true false = refl
+out_twice false out = refl
+
+pub out_of_those : (t : ℕ) (xs : List OrderRow)
+    → count_by (λ (l : OrderLine). nat_eq l.state 2) (map line_of (filter (in_state t 2) xs)) ≡ count_by (in_state t 2) xs
+out_of_those t xs =
+    let kept = filter (in_state t 2) xs in
+    count_map (λ (l : OrderLine). nat_eq l.state 2) line_of kept ∙ sym (length-filter (λ (o : OrderRow). nat_eq o.state 2) kept)
+    ∙ ap length (filters (in_state t 2) (λ (o : OrderRow). nat_eq o.state 2) xs ∙ same_test _ _ (λ (o : OrderRow). out_twice (nat_eq t o.ticket) (nat_eq o.state 2)) xs)
+    ∙ length-filter (in_state t 2) xs
+
 -- a ticket has fewer orders than can be told
 few_kept : (p : OrderRow → Bool) (xs : List OrderRow) → length (filter p xs) ≤ length xs
 few_kept p xs = subst (λ n. n ≤ length xs) (sym (length-filter p xs)) (count_by-le-length p xs)
 
-pub few_lines : (t : ℕ) (d : Desk) → length d.orders ≤ most_orders
-    → length (map line_of (filter (λ (o : OrderRow). nat_eq t o.ticket && has_not_ended o) d.orders)) < 2 ^ 32
-few_lines t d few =
-    let kept = filter (λ (o : OrderRow). nat_eq t o.ticket && has_not_ended o) d.orders in
-    let same = length-map kept line_of in
-    let fewer = few_kept (λ (o : OrderRow). nat_eq t o.ticket && has_not_ended o) d.orders in
+pub few_lines : (p : OrderRow → Bool) (d : Desk) → length d.orders ≤ most_orders → length (map line_of (filter p d.orders)) < 2 ^ 32
+few_lines p d few =
+    let same = length-map (filter p d.orders) line_of in
+    let fewer = few_kept p d.orders in
     omega (arith, same, fewer, few)
 
 -- ---- the card

@@ -1,5 +1,5 @@
 -- What a clerk knows about a ticket, and how tickets are given and renewed.
-use Rattle.std.specs.Prelude.{ℕ, suc, ℤ, ◌&&◌, if◌then◌else◌, Bool, cond, nat_eq, nat_lt, List, [], ◌∷◌, ◌++◌, length}
+use Rattle.std.specs.Prelude.{ℕ, suc, ℤ, ◌&&◌, ◌||◌, if◌then◌else◌, Bool, cond, nat_eq, nat_lt, List, [], ◌∷◌, ◌++◌, length}
 use Rattle.std.specs.Prelude.{map, filter, find, count_by, Option, Some, None, option_map}
 use Rattle.std.specs.Ordering.{int_eq}
 use Rattle.isad_core.specs.Texts.{Bytes}
@@ -39,7 +39,7 @@ seat_of_ticket t d = option_map (λ (s : SeatRow). s.seat) (find (λ (s : SeatRo
 
 -- the order waits or is out: it is neither done nor cancelled
 abbrev pub has_not_ended : OrderRow → Bool
-has_not_ended o = nat_lt o.state 3
+has_not_ended o = nat_eq o.state 1 || nat_eq o.state 2
 
 -- the ticket's orders that wait or are out, by number
 abbrev pub orders_not_ended : ℕ → Desk → List LiveOrder

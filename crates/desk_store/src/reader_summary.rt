@@ -1,6 +1,7 @@
 //! What the desk knows about a ticket.
 
-ghost use Rattle.std.specs.Prelude.{◌≡◌, ◌<◌, ◌≤◌, ◌^◌, ◌&&◌, nat_eq, length, map, filter};
+ghost use Rattle.std.specs.Prelude.{◌≡◌, ◌<◌, ◌≤◌, ◌^◌, ◌&&◌, ◌++◌, nat_eq, length, map, filter, IsPermutation};
+ghost use Rattle.std.specs.List.Sorted.{IsNonDecreasingBy};
 ghost use Rattle.std.specs.Prelude.{option_map, IfOk, ⊤};
 ghost use Rattle.std.specs.List.{count_by};
 ghost use Rattle.std.specs.Ordering.{int_eq};
@@ -75,9 +76,35 @@ impl FromRow for OrderLine {
     }
 }
 
-/// The orders of a ticket that wait or are out, in ascending order of their numbers. The index of the orders by ticket
-/// and state finds them, so orders that have ended are not read.
-pub(crate) fn live_lines<P: Versioned, S: Alter>(
+/// An order in this state waits.
+const WAITING: u32 = 1;
+
+/// An order in this state is out.
+const OUT: u32 = 2;
+
+/// The orders of a ticket that are in this state, in ascending order of their numbers. The index of the orders by ticket
+/// and state finds them, so no others are read.
+fn lines_in<P: Versioned, S: Alter>(
+    alloc: Global,
+    tables: &mut Tables<P, S>,
+    ticket: Number,
+    state: u32,
+) -> Result<Vec<OrderLine>, StoreFault>
+    ensures { LooksUp S.Store (Holds schema.orders order_cells) tables.old tables.new result
+        when AreCounted (λ o. o.id) gives λ xs found. found.items
+        ≡ map (λ (o : OrderRow). record { order = o.id; container = o.container; state = o.state })
+        (filter (λ o. nat_eq ticket o.ticket && nat_eq o.state state) xs) }
+{
+    find(
+        alloc,
+        tables,
+        "SELECT id, container, state FROM orders WHERE ticket = ?1 AND state = ?2 ORDER BY id",
+        &[cell(ticket), cell(Number::from(state))],
+    )
+}
+
+/// The orders of a ticket that are out, in ascending order of their numbers.
+pub(crate) fn lines_out<P: Versioned, S: Alter>(
     alloc: Global,
     tables: &mut Tables<P, S>,
     ticket: Number,
@@ -85,14 +112,37 @@ pub(crate) fn live_lines<P: Versioned, S: Alter>(
     ensures { LooksUp S.Store (Holds schema.orders order_cells) tables.old tables.new result
         when AreCounted (λ o. o.id) gives λ xs found. found.items
         ≡ map (λ (o : OrderRow). record { order = o.id; container = o.container; state = o.state })
-        (filter (λ o. nat_eq ticket o.ticket && has_not_ended o) xs) }
+        (filter (λ o. nat_eq ticket o.ticket && nat_eq o.state 2) xs) }
 {
-    find(
-        alloc,
-        tables,
-        "SELECT id, container, state FROM orders WHERE ticket = ?1 AND state < 3 ORDER BY id",
-        &[cell(ticket)],
-    )
+    lines_in(alloc, tables, ticket, OUT)
+}
+
+/// The orders of both lists, in ascending order of their numbers.
+fn by_number(waiting: Vec<OrderLine>, out: &[OrderLine]) -> Result<Vec<OrderLine>, AllocError>
+    ensures all { IfOk result (λ lines. IsPermutation (waiting.items ++ out.now) lines.items) }
+    ensures order { IfOk result (λ lines. IsNonDecreasingBy (λ (line : OrderLine). line.order) lines.items) }
+{
+    let mut lines = waiting;
+    lines.extend_from_slice(out)?;
+    lines.sort_unstable_by_key(|line| line.order);
+    Ok(lines)
+}
+
+/// The orders of a ticket that wait or are out, in ascending order of their numbers. Orders that have ended are not
+/// read.
+fn live_lines<P: Versioned, S: Alter>(
+    alloc: Global,
+    tables: &mut Tables<P, S>,
+    ticket: Number,
+) -> Result<Vec<OrderLine>, StoreFault>
+    ensures { LooksUp S.Store (Holds schema.orders order_cells) tables.old tables.new result
+        when AreCounted (λ o. o.id) gives λ xs found. found.items
+        ≡ map (λ (o : OrderRow). record { order = o.id; container = o.container; state = o.state })
+        (filter (λ (o : OrderRow). nat_eq ticket o.ticket && has_not_ended o) xs) }
+{
+    let waiting = lines_in(alloc, tables, ticket, WAITING)?;
+    let out = lines_out(alloc, tables, ticket)?;
+    Ok(by_number(waiting, &out)?)
 }
 
 /// How many orders all tickets have placed so far. This is the greatest number of an order, in the table's last row.

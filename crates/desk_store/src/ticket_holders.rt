@@ -6,7 +6,7 @@ ghost use Rattle.office_tables.specs.Premises.{◌within◌gives◌};
 ghost use Rattle.desk_store.specs.Readers.{ticket_holder};
 ghost use Rattle.desk_store.specs.Representation.{RepresentsDeskAlone, IsLegible};
 
-use crate::reader_summary::{count_out, live_lines, seat_in};
+use crate::reader_summary::{count_out, lines_out, seat_in};
 use crate::readers::find_reader;
 use crate::taken_seats::find_seat;
 use desk_core::Reader;
@@ -29,7 +29,7 @@ pub fn ticket_holder<P: Versioned, S: Alter>(
         return Ok(None);
     };
     let taken = find_seat(alloc, tables, ticket)?;
-    let lines = live_lines(alloc, tables, ticket)?;
+    let lines = lines_out(alloc, tables, ticket)?;
     Ok(Some(Reader {
         ticket: ticket.get(),
         until: row.until,

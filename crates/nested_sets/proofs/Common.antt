@@ -9,7 +9,8 @@ pub use Rattle.std.proofs.lemmas.List.{reverse-append, take_all}
 pub use Rattle.std.proofs.lemmas.List.Sorted.{IsNonDecreasingBy-from_all_adjacent, IsPermutation-append_comm}
 pub use Rattle.std.proofs.lemmas.List.Sorted.{IsPermutation-append_left, IsPermutation-cons, IsPermutation-filter_both}
 pub use Rattle.std.proofs.lemmas.List.Sorted.{IsPermutation-map, IsPermutation-refl, IsPermutation-sym}
-pub use Rattle.std.proofs.lemmas.List.Sorted.{IsPermutation-trans, list_any-IsPermutation, searched}
+pub use Rattle.std.proofs.lemmas.List.Sorted.{IsPermutation-trans, answers_always, list_any-IsPermutation, ranks_by}
+pub use Rattle.std.proofs.lemmas.List.Sorted.{searched}
 pub use Rattle.std.proofs.lemmas.Result.{IfOk-weaker}
 pub use Rattle.std.specs.BTreeMap.{get}
 pub use Rattle.std.specs.Cmp.{IsTotalOrder, int_cmp_total, on_total, then_total}
@@ -46,7 +47,7 @@ pub use Rattle.sqlite_trees.proofs.ListLemmas.{IsPermutation-flat_map_each, all-
 pub use Rattle.sqlite_trees.proofs.ListLemmas.{all-permutation, all_from_map, all_of, all_weaker, ascending-append}
 pub use Rattle.sqlite_trees.proofs.ListLemmas.{ascending-filter, ascending-map, ascending_from_map, ascending_weaker}
 pub use Rattle.sqlite_trees.proofs.ListLemmas.{filter-map, filter_all, filter_none, filter_same, flat_map_same_on}
-pub use Rattle.sqlite_trees.proofs.ListLemmas.{map-flat_map, map-map}
+pub use Rattle.sqlite_trees.proofs.ListLemmas.{map-flat_map, map-map, pull_back}
 pub use Rattle.sqlite_typing.specs.Types.{accepts_program}
 pub use Rattle.sqlite_value.specs.Keys.{ascending}
 pub use Rattle.tree_core.proofs.Adding.{Below, Beside, Here, absent, distinct_added, place}
@@ -113,7 +114,8 @@ pub use Rattle.catalogue_statements.specs.Rows.{element_row, housing_row, office
 pub use Rattle.catalogue_statements.specs.declared.office.OfficeRow.{OfficeRow}
 pub use Rattle.tree_places.proofs.MarkForests.{ids_from, marks_from, part_in, path_ids, path_in}
 pub use Rattle.nested_sets.specs.Arrivals.{AreFree, found_before, key, rows_among, with_span_rows}
-pub use Rattle.nested_sets.specs.JoinedRows.{AreReadable, HoldsHousingRows, HoldsUnitRows, IsNumberedIn, by_walk}
+pub use Rattle.nested_sets.specs.JoinedRows.{AreReadable, HoldsHousingRows, HoldsUnitRows, IsNumberedIn}
+pub use Rattle.nested_sets.specs.JoinedRows.{by_own_number, by_place, by_walk}
 pub use Rattle.nested_sets.specs.JoinedRows.{comes_next, is_first, is_first_between, is_housed, is_of_unit, left_after}
 pub use Rattle.nested_sets.specs.JoinedRows.{mark_with, marked, merged_marks, placed_cells, placed_status}
 pub use Rattle.nested_sets.specs.KnownPaths.{HoldsCatalogue, IsRow, IsToldIn, IsWholeMarkOf, rows_of, span_at}

@@ -1,5 +1,5 @@
 -- An office over tables of any origin, against which there is no cause.
-use Rattle.std.proofs.Common.{◌≡◌, ◌≤◌, ◌∙◌, ℕ, List, Ok, Err, None, IsTrue, inl, inr, arith, refl, sym, subst}
+use Rattle.std.proofs.Common.{◌≡◌, ◌≤◌, ◌∙◌, ℕ, List, Ok, Err, None, IsTrue, false, inl, inr, arith, ap, refl, sym, subst}
 use Rattle.sqlite.specs.Order.{Row}
 use Rattle.sqlite.specs.State.{ExecutesIn}
 use Rattle.sqlite.specs.State as store
@@ -15,6 +15,8 @@ use Rattle.adoption.specs.Tables.{RepresentsItsState, SoundTablesRepresentTheirS
 use Rattle.adoption.specs.declared.verdict.Verdict.{Verdict}
 use Rattle.adoption.specs.declared.verdict.Verdict.TheVariants as verdict
 use Rattle.office.proofs.Common.{BlamesDisk, ConfirmsOpen, Database, Executes, Forest, HasAdoptCause, HasCleanDisk}
+use Rattle.office_tables.specs.Faults.{IsUnlimited}
+use Rattle.office.specs.IdleOffice.{IsOffice}
 use Rattle.office.proofs.Common.{HasOuterCause, Held, Inspects, IsAdopted, IsAsBefore, IsIn, IsLive, IsNotRun}
 use Rattle.office.proofs.Common.{IsSoundOffice, IsVerdict, RepresentsState, Shows, StoreFault, Survives, Trees, Version}
 use Rattle.office.proofs.Common.{both_ways, cases_Bool, early, encoding, fault_for_verdict, open_fault_of, state}
@@ -128,6 +130,54 @@ caused_later a b d crash counts clean cause.Schema why = why
 apart : (a b d : store.State) → Survives a b (λ _. ⊥) → Survives b d (λ _. ⊥) → Survives a d (λ _. ⊥)
 apart a b d first second =
     survives_then a b d (λ _. ⊥) (λ _. ⊥) (λ _. ⊥) (λ _ db none. none) (λ _ db none. none) first second
+
+both_before : (a b d : store.State) → IsAsBefore a b → IsAsBefore b d → IsAsBefore a d
+both_before a b d first second = record {
+  was_open = λ opened. first.was_open (second.was_open opened);
+  now = λ opened. second.now opened ∙ first.now (second.was_open opened);
+  committed = λ opened. second.committed opened ∙ first.committed (second.was_open opened);
+  ended = second.ended;
+}
+
+-- what was read afterwards left all as it was
+pub inspected_on : {S : Type 0} {g : trees.Ghosts S} {before mid after : Held S} {version : Version} {told : Verdict} → Inspects g before mid version (Ok told)
+    → (HasCleanDisk (state g after) → IsAsBefore (state g mid) (state g after)) → Survives (state g mid) (state g after) (λ _. ⊥)
+    → Inspects g before after version (Ok told)
+inspected_on {g = g} {before} {mid} {after} judged same crash =
+    let a = state g before in
+    let b = state g mid in
+    let d = state g after in
+    record {
+      answers = λ clean. judged.answers (early crash clean);
+      back = λ clean. both_before a b d (judged.back (early crash clean)) (same clean);
+      disk = λ clean. tt;
+      faults = λ clean ordered. tt;
+      crash = apart a b d judged.crash crash;
+    }
+
+-- ---- a connection that is found open after the marks were read
+
+pub open_before : (b d : store.State) → b.in_transaction ≡ false → Shows b d b.now b.committed b.in_transaction → IsAsBefore b d
+open_before b d outside it = record {
+  was_open = λ opened. it.was_open;
+  now = λ opened. it.now_is;
+  committed = λ opened. it.committed_is;
+  ended = it.mode ∙ outside;
+}
+
+pub office_found : (version : Version) (b d : store.State) → IsOffice version b → (HasCleanDisk d → HasCleanDisk b)
+    → (HasCleanDisk d → Shows b d b.now b.committed b.in_transaction) → IsUnlimited d → IsOffice version d
+office_found version b d office clean_b shows free = record {
+  unlimited = free;
+  rests = λ clean.
+      let it = shows clean in
+      let rest = office.rests (clean_b clean) in
+      record {
+        ended = it.mode ∙ rest.ended;
+        schema_is = λ opened. ap (λ (db : Database). db.schema) it.now_is ∙ rest.schema_is it.was_open;
+        settled = λ opened. it.now_is ∙ rest.settled it.was_open ∙ sym it.committed_is;
+      };
+}
 
 module _ {S X : Type 0} {g : trees.Ghosts S} {before mid after : Held S} {version : Version} {told : Verdict} (judged : Inspects g before mid version (Ok told)) where
   -- it is open

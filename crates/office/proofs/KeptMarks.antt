@@ -1,8 +1,10 @@
 -- The marks that an office keeps: when they stay those of its tables.
-use Rattle.std.proofs.Common.{◌≡◌, ℕ, true, IsTrue, List, Option, Result, refl, sym, ap, subst, ◌∙◌}
+use Rattle.std.proofs.Common.{◌≡◌, ℕ, true, IsTrue, IfOk, List, Option, Some, Result, Ok, Err, refl, sym, ap, subst, ◌∙◌}
+use Rattle.std.specs.Result.{result_ok}
 use Rattle.std.specs.Prelude.{OnOk}
 use Rattle.sqlite.specs.State.{State}
-use Rattle.sqlite_trees.specs.declared.store.Store as trees
+use Rattle.catalogue_core.specs.CatalogueMerge.{Catalogue}
+use Rattle.catalogue_statements.specs.declared.office.OfficeRow.{OfficeRow}
 use Rattle.office_tables.specs.Schema as tables
 use Rattle.office_core.specs.State as office
 use Rattle.refinement.proofs.Frames.{catalogue_kept}
@@ -73,6 +75,20 @@ kept_within places version a b m clean_b begins kept last stays it at_m at_a ope
     let begun = begins (clean_b at_m) in
     let before = subst (λ (db : Database). AreOfTables places version db kept) (sym begun.now_is) (it at_a opened) in
     subst (λ (db : Database). AreOfTables places version db last) begun.now_is (stays at_m before)
+
+-- ---- marks that are read before any are kept
+
+module _ (places : Trees → Forest ℕ → Type 0) (version : Version) (z : State) where
+  pub marks_read : (r : Result (List Mark) StoreFault)
+      → (HasCleanDisk z → IsTrue z.is_open → (row : OfficeRow) (c : Catalogue) → Represents places version z.now row c → IfOk r (λ forest. TellOf c (Some forest)))
+      → IfOk r (λ forest. AreKept places version z (Some forest))
+  marks_read (Ok forest) tells = tells
+  marks_read (Err fault) tells = tt
+
+  -- without them, none are kept
+  pub marks_taken : (r : Result (List Mark) StoreFault) → IfOk r (λ forest. AreKept places version z (Some forest)) → AreKept places version z (result_ok r)
+  marks_taken (Ok forest) it = it
+  marks_taken (Err fault) it = λ clean opened row c shown. tt
 
 -- ---- a question that is asked of the tables whose marks are kept
 

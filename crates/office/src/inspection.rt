@@ -30,7 +30,7 @@ fn judge_apart<P: CheckedPlaces, S: Alter>(
 
 /// Fails if a failure of the disk has shut the connection: no statement can be prepared on it then. It may also lack
 /// memory. None is run.
-fn confirm_open<S: Alter>(conn: &mut Connection<S>) -> Result<(), StoreFault>
+pub(crate) fn confirm_open<S: Alter>(conn: &mut Connection<S>) -> Result<(), StoreFault>
     ensures { ConfirmsOpen S.Store conn.old conn.new result }
 {
     conn.prepare("BEGIN")?;

@@ -3,6 +3,7 @@
 
 mod commands;
 mod faults;
+mod first_marks;
 mod inspection;
 mod kept_marks;
 pub mod laws;

@@ -21,7 +21,8 @@ ghost use Rattle.refinement.specs.Representation.{RepresentsState};
 
 use crate::commands::apply_keeping;
 use crate::faults::{OpenFault, busy, fault_for};
-use crate::inspection::look_over;
+use crate::first_marks::read_ahead;
+use crate::inspection::{confirm_open, look_over};
 use crate::names::names_days_and_texts;
 use crate::new_office::found;
 use crate::queries::ask_in;
@@ -37,9 +38,9 @@ use std::alloc::Global;
 use std::marker::Model;
 
 /// An office over its tables, which stores the places of its units as `P` does. Between its calls no transaction is
-/// open, and the connection has the tables of an office, as they were committed. Once a question or a command needed
-/// them, the marks of all units are kept in memory: a status and a closure change them, and another command that changes
-/// the catalogue lets them go.
+/// open, and the connection has the tables of an office, as they were committed. From the opening on, or once a question
+/// or a command needed them, the marks of all units are kept in memory: a status and a closure change them, and another
+/// command that changes the catalogue lets them go.
 pub struct Office<P: Places, S: Alter> {
     closed: Closed<P, S>,
     kept: Option<KnownForest>,
@@ -222,13 +223,19 @@ impl<P: CheckedPlaces, S: Alter> Office<P, S> {
             Ok(verdict) => verdict,
             Err(fault) => return Err((OpenFault::from(fault), conn)),
         };
-        match fault_for(verdict) {
-            Some(fault) => Err((fault, conn)),
-            None => Ok(Office {
+        if let Some(fault) = fault_for(verdict) {
+            return Err((fault, conn));
+        }
+        let (kept, mut conn) = read_ahead::<P, S>(alloc, conn);
+        // Outside a transaction a connection that is open shows what was committed.
+        let _ = conn.is_autocommit();
+        match confirm_open(&mut conn) {
+            Ok(()) => Ok(Office {
                 closed: Closed::of(conn),
-                kept: None,
+                kept,
                 is_sound: false,
             }),
+            Err(fault) => Err((OpenFault::from(fault), conn)),
         }
     }
 

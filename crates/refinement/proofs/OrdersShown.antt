@@ -12,7 +12,7 @@ use Rattle.state_encoding.proofs.Grouped.{any_filter}
 use Rattle.refinement.proofs.Common.{Cancelled, End, Ended, ExactlyOne, IsFiled, IsSoundOffice, Order, OrderRow}
 use Rattle.refinement.proofs.Common.{Version, Waiting, WithItsReader, and_from, and_parts, any_of_in, container_of}
 use Rattle.refinement.proofs.Common.{eqb-true, false≢true, flipped, has_not_ended, has_ordered, in_rows, is_by}
-use Rattle.refinement.proofs.Common.{is_out_for, is_out_with, is_some, list_any, nat_lt, nth, option_map, or_cases}
+use Rattle.refinement.proofs.Common.{is_out_for, is_out_with, is_some, list_any, nth, option_map, or_cases}
 use Rattle.refinement.proofs.Common.{order_out, order_row, order_rows, order_there, orders_not_ended, same_number}
 use Rattle.refinement.proofs.Common.{some_and, some_in, some_is, standing, stands, stands_as, state_number, tables}
 
@@ -31,9 +31,13 @@ any_from p m (n ∷ ns) h passes = elim (or_cases (nat_eq m n) (stands m ns) h) 
     or_second true b e = refl
     or_second false b e = e
 
+-- the numbers of the states of orders that wait or are out
+abbrev lives : ℕ → Bool
+lives n = nat_eq n 1 || nat_eq n 2
+
 -- a live order waits or is out
 live_is : (w h : Bool) (past : Option End) → ExactlyOne w h (is_some past)
-    → nat_lt (state_number (cond w (Some Waiting) (cond h (Some WithItsReader) (option_map Ended past)))) 3 ≡ true
+    → lives (state_number (cond w (Some Waiting) (cond h (Some WithItsReader) (option_map Ended past)))) ≡ true
     → (w || h) ≡ true
 live_is true h past one live = refl
 live_is false true past one live = refl
@@ -52,8 +56,8 @@ module _ (version : Version) (s : State) (sound : IsSoundOffice s) (t c : ℕ) w
       let mine : is_by s t m ≡ true =
       subst (λ k. is_by s k m ≡ true) (sym (eqb-true t order.ticket two.0)) (is_by_its_ticket s m order is) in
       let filed = subst (λ k. IsFiled k (λ k. stands m (s.queue k)) (λ k. is_out_for m (s.place k)) (s.past m)) for_it (sound.sound.desk.filed.each m) in
-      let live : nat_lt (state_number (cond (stands m (s.queue c)) (Some Waiting) (cond (is_out_for m (s.place c)) (Some WithItsReader) (option_map Ended (s.past m))))) 3 ≡ true =
-      subst (λ k. nat_lt (state_number (stands_as k (λ k. stands m (s.queue k)) (λ k. is_out_for m (s.place k)) (s.past m))) 3 ≡ true) for_it two.1 in
+      let live : lives (state_number (cond (stands m (s.queue c)) (Some Waiting) (cond (is_out_for m (s.place c)) (Some WithItsReader) (option_map Ended (s.past m))))) ≡ true =
+      subst (λ k. lives (state_number (stands_as k (λ k. stands m (s.queue k)) (λ k. is_out_for m (s.place k)) (s.past m))) ≡ true) for_it two.1 in
       elim (or_cases (stands m (s.queue c)) (is_out_for m (s.place c)) (live_is (stands m (s.queue c)) (is_out_for m (s.place c)) (s.past m) filed.0 live)) [
         | inl waits ↦ ap (λ b. b || is_out_with s t c) (any_from (is_by s t) m (s.queue c) waits mine)
         | inr out ↦ or_last (list_any (is_by s t) (s.queue c)) (is_out_with s t c) (ap (some_and (is_by s t)) (out_is m (s.place c) out) ∙ mine)
@@ -70,7 +74,7 @@ module _ (version : Version) (s : State) (sound : IsSoundOffice s) (t c : ℕ) w
       row_ordered i.0 i.1 i.2 (ap (is_theirs t c) (sym i.3) ∙ found.2)
 
   -- an order that waits for it or is out with it, and is the ticket's, has its row
-  has_row : (o : ℕ) → is_by s t o ≡ true → container_of s o ≡ Some c → nat_lt (state_number (standing s o)) 3 ≡ true
+  has_row : (o : ℕ) → is_by s t o ≡ true → container_of s o ≡ Some c → lives (state_number (standing s o)) ≡ true
       → list_any (is_theirs t c) (order_rows s) ≡ true
   has_row o mine for_it live =
       let known = some_is (nth s.orders o) (by_some (nth s.orders o) mine) in
@@ -99,7 +103,7 @@ module _ (version : Version) (s : State) (sound : IsSoundOffice s) (t c : ℕ) w
       let waits : stands o (s.queue c) ≡ true = any_of_in (nat_eq o) (s.queue c) o found.1 (same_number o) in
       let is = waiting (container_of s o) (λ k. stands o (s.queue k)) (λ k. is_out_for o (s.place k)) (s.past o) c (sound.sound.desk.filed.each o) waits in
       let stood = stands_waiting (container_of s o) (λ k. stands o (s.queue k)) (λ k. is_out_for o (s.place k)) (s.past o) c is.for_it waits in
-      has_row o found.2 is.for_it (ap (λ st. nat_lt (state_number st) 3) stood)
+      has_row o found.2 is.for_it (ap (λ st. lives (state_number st)) stood)
 
   of_place : (o : Option ℕ) → order_out (s.place c) ≡ o → some_and (is_by s t) o ≡ true
       → list_any (is_theirs t c) (order_rows s) ≡ true
@@ -108,7 +112,7 @@ module _ (version : Version) (s : State) (sound : IsSoundOffice s) (t c : ℕ) w
       let out : is_out_for o (s.place c) ≡ true = ap (some_and (nat_eq o)) e ∙ same_number o in
       let is = out_with (container_of s o) (λ k. stands o (s.queue k)) (λ k. is_out_for o (s.place k)) (s.past o) c (sound.sound.desk.filed.each o) out in
       let stood = stands_out (container_of s o) (λ k. stands o (s.queue k)) (λ k. is_out_for o (s.place k)) (s.past o) c is in
-      has_row o mine is.for_it (ap (λ st. nat_lt (state_number st) 3) stood)
+      has_row o mine is.for_it (ap (λ st. lives (state_number st)) stood)
 
   ordered_rows : has_ordered s t c ≡ true → list_any (is_theirs t c) (order_rows s) ≡ true
   ordered_rows has = elim (or_cases (list_any (is_by s t) (s.queue c)) (is_out_with s t c) has) [

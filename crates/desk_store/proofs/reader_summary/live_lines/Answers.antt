@@ -1,18 +1,30 @@
-use Rattle.std.proofs.Common.{map, filter, nat_eq, ◌&&◌, ap, ◌∙◌}
-use Rattle.desk_store.proofs.Common.{IfOk-weaker, OrderRow, ascending-filter, counted_rises, has_not_ended, known_query}
-use Rattle.desk_store.proofs.Common.{looks_up, only_order}
-use Rattle.desk_store.proofs.CardRows.{live_means, live_finds, live_faults, line_of, by_order, by_order_total}
+use Rattle.std.proofs.Common.{◌≡◌, ◌++◌, map, subst, sym}
+use Rattle.office_tables.proofs.LookUps.{looks_full, looks_passed, looks_passed_later, looks_well}
+use Rattle.office_tables.specs.Schema as tables
+use Rattle.desk_store.proofs.Common.{Database, IsPermutation, early, looks_then, order_cells}
+use Rattle.desk_store.proofs.CardRows.{lines_together}
 use Rattle.desk_store.proofs.reader_summary.live_lines.Goals as goal
 
-pub find-requires : goal.find-requires
-find-requires g c = known_query (live_means g.P.Versioned.version)
+pub returns-in_err-waiting : goal.returns-in_err-waiting
+returns-in_err-waiting g c = looks_passed c.from_residual.ensures c.in_err-waiting.ensures c.in_err-waiting.ensures.faults
+
+pub returns-in_err-out : goal.returns-in_err-out
+returns-in_err-out g c =
+    let looked = c.in_ok-waiting.ensures.reads.looks in
+    looks_passed_later c.from_residual-in_err-out.ensures looked c.in_err-out.ensures
+    (λ clean xs held. c.in_err-out.ensures.faults xs (subst (λ (db : Database). db.trees tables.orders.tree ≡ map order_cells xs) (sym (looked.same clean)) held))
+
+pub returns-in_err-by_number : goal.returns-in_err-by_number
+returns-in_err-by_number g c =
+    looks_full c.from_residual-in_err-by_number.ensures (looks_then c.in_ok-waiting.ensures.reads.looks c.in_ok-out.ensures.reads.looks)
 
 pub returns : goal.returns
 returns g c =
-    looks_up g.P.Versioned.version c.find.ensures.reads (rw c.cell.ensures at c.find.ensures.ran)
-    (λ v has found xs stored counted.
-    let kept = filter (λ (o : OrderRow). nat_eq c.args.ticket o.ticket && has_not_ended o) xs in
-    let rising = ascending-filter _ (λ (o : OrderRow). nat_eq c.args.ticket o.ticket && has_not_ended o) xs (counted_rises (λ (o : OrderRow). o.id) 1 xs counted) in
-    IfOk-weaker c.find.result _ _ (λ all it. it.2 ∙ ap (map line_of) (only_order by_order by_order_total kept it.0 rising it.1.1 it.1.0))
-    (live_finds _ _ c.args.ticket v has xs stored (λ found. found.items) c.find.result found))
-    (λ v has missed xs stored _ free. live_faults _ _ c.args.ticket v has xs stored (λ found. found.items) c.find.result free missed)
+    let looked = c.in_ok-waiting.ensures.reads.looks in
+    looks_well (looks_then looked c.in_ok-out.ensures.reads.looks)
+    (λ clean xs held counted.
+    let before = early c.in_ok-out.ensures.reads.looks.goes.on.crash clean in
+    let waiting = c.in_ok-waiting.ensures.answers before xs held counted in
+    let out = c.in_ok-out.ensures.answers clean xs (subst (λ (db : Database). db.trees tables.orders.tree ≡ map order_cells xs) (sym (looked.same before)) held) counted in
+    lines_together c.args.ticket xs counted c.in_ok-waiting.waiting.items c.in_ok-out.out.items c.in_ok-by_number.field-0.items waiting out
+    (subst (λ l. IsPermutation (c.in_ok-waiting.waiting.items ++ l) c.in_ok-by_number.field-0.items) c.deref.ensures.value c.in_ok-by_number.ensures.all) c.in_ok-by_number.ensures.order)

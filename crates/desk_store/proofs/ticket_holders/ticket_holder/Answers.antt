@@ -1,7 +1,8 @@
 use Rattle.std.proofs.Common.{◌<◌, ◌^◌, length, List, None, refl, ap, sym, subst, ◌∙◌, nat_eq}
 use Rattle.desk_store.proofs.Common.{OrderLine, RepresentsDeskAlone, count_by, early, looks_then, option_map}
-use Rattle.desk_store.proofs.Common.{same_fault, state}
-use Rattle.desk_store.proofs.CardCalls.{out_of_lines, few_lines, seat_told, holder_with, holder_told}
+use Rattle.desk_store.proofs.Common.{same_fault}
+use Rattle.desk_store.proofs.CardCalls.{out_of_those, few_lines, seat_told, holder_with, holder_told}
+use Rattle.desk_store.proofs.CardRows.{in_state}
 use Rattle.desk_store.proofs.ticket_holders.ticket_holder.Goals as goal
 use Rattle.desk_store.proofs.ToldCalls.{shown_on}
 use Rattle.desk_store.proofs.TellingCalls.{ends_not, ends_well}
@@ -33,7 +34,7 @@ returns g c =
           let holder = sym (ap (option_map (holder_with t d)) c.in-Some.is) ∙ holder_told t d _ (c.in_ok-row.ensures.answers at_b d.readers shown.readers shown.tickets) in
           let seat = c.seat_in.ensures ∙ seat_told t d _ (c.in_ok-taken.ensures.answers at_s d.seats shown_b.seats shown_b.seats_rise) in
           let lines = c.deref.ensures.value ∙ c.in_ok-lines.ensures.answers clean d.orders shown_s.orders shown_s.order_numbers in
-          let few = subst (λ (l : List OrderLine). length l < 2 ^ 32) (sym lines) (few_lines t d shown.few_orders) in
-          let held = c.count_out.ensures few ∙ ap (count_by (λ (l : OrderLine). nat_eq l.state 2)) lines ∙ out_of_lines t d.orders in
+          let few = subst (λ (l : List OrderLine). length l < 2 ^ 32) (sym lines) (few_lines (in_state t 2) d shown.few_orders) in
+          let held = c.count_out.ensures few ∙ ap (count_by (λ (l : OrderLine). nat_eq l.state 2)) lines ∙ out_of_those t d.orders in
           (rw (c.get.ensures.same, seat, held) refl) ∙ holder);
     }

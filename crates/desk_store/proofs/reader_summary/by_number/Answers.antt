@@ -1,0 +1,7 @@
+use Rattle.std.proofs.Common.{rules}
+use Rattle.std.proofs.lemmas.List.Sorted.{IsNonDecreasingBy-from_sort_by_key}
+use Rattle.desk_store.proofs.Common.{OrderLine}
+use Rattle.desk_store.proofs.reader_summary.by_number.Goals as goal
+
+pub returns-clause-order : goal.returns-clause-order
+returns-clause-order c = IsNonDecreasingBy-from_sort_by_key (λ (l : OrderLine). l.order) _ c.sort_unstable_by_key.ensures.sorted (λ a r q k. search rules)
