@@ -16,11 +16,13 @@ harbour_timers=(record-office-backup@harbour.timer record-office-probe@harbour.t
 
 . "$(dirname "$0")/try_checks.sh"
 
-# serve SITE: nginx serves this site for the first office
+# serve SITE: nginx serves this site for the first office, and its workers of before have gone
 serve() {
+    local worker workers
+    workers=$(cat "/proc/$(cat /run/nginx.pid)/task/"*/children)
     ln -sfn "../sites-available/$1" /etc/nginx/sites-enabled/record-office
     nginx -t -q && systemctl reload nginx
-    sleep 1
+    for worker in $workers; do waits sh -c "! kill -0 $worker"; done
 }
 
 before() {

@@ -133,6 +133,7 @@ my_orders() {
     old=$(secret "$ticket")
     same 'the code of a ticket leads to a page' "$(card "$ticket" | grep -c '"path"') $(leads "$old")" '1 302'
     is 'where a reader orders' shows Ordered /order -d container=3-2
+    is 'of which the desk knows the unit' waits knows "$ticket" 3
     is 'and wants to be told' shows 'You will get a message' /message -d wanted=1
     ask run '' >/tmp/said
     is 'what is ready is shown' shows 'class="state ready"' ''

@@ -57,7 +57,7 @@ class Ordered:
                 AND container = json_extract(value, '$[2]') ORDER BY number""", (orders,)).fetchall()
 
     def listen(self, path):
-        """Takes what comes to a socket, which answers nobody. Never returns. Others read the tables: there are some at once."""
+        """Takes what comes to a socket, which answers nobody. Never returns. The tables are there first: others read them."""
         path.unlink(missing_ok=True)
         with contextlib.suppress(sqlite3.Error), self.opened():
             pass
