@@ -25,8 +25,8 @@ def pytest_addoption(parser: pytest.Parser) -> None:
     group.addoption("--shots", type=Path, help="a folder that gets pictures of the pages; else none are kept")
     group.addoption("--slower", type=float, default=1, help="makes pages so many times slower")
     group.addoption("--patience", type=float, default=60, help="seconds that anything is waited for, where a machine is slow")
-    group.addoption("--steps", type=int, help="so many random steps, or questions, in place of what each test has")
-    group.addoption("--seed", type=int, help="where random sessions begin")
+    group.addoption("--steps", type=int, help="so many random questions in place of what a test has")
+    group.addoption("--seed", type=int, help="where random questions begin")
     group.addoption("--approve", action="store_true", help="keep what is compared with acceptance/front/approved as approved")
 
 

@@ -5,7 +5,7 @@ import io
 import pytest
 
 from acceptance import client
-from acceptance.client import BUSY, NO_MEMORY, Ended, Reply
+from acceptance.client import BUSY, Ended, Reply
 
 ISSUED = b"HTTP/1.1 200 OK\r\nContent-Type: application/json\r\nContent-Length: 2\r\n\r\n[]"
 
@@ -21,12 +21,6 @@ def test_replies_that_are_cut() -> None:
     for size in range(1, len(ISSUED)):
         assert client.replies(ISSUED[:size]) != client.replies(ISSUED), size
     assert client.read_reply(io.BytesIO()) == Reply(0, b"", b"")
-
-
-def test_expect_success() -> None:
-    assert Ended(0, b"sound\n", b"").expect_success() == b"sound\n"
-    with pytest.raises(RuntimeError):
-        NO_MEMORY.expect_success()
 
 
 def test_expect_end_shows_the_bytes_around_the_first_difference() -> None:

@@ -1,9 +1,8 @@
 """The commands of the program as their users call them: words, exit statuses and messages, settings, previews, stores that are
-none, `serve` with curl and with connections that break, a backup, SQLite's own tool, the kept file of version 1."""
+none, `serve` with curl and with connections that break, SQLite's own tool, the kept file of version 1."""
 
 import os
 import shutil
-import signal
 import socket
 import struct
 import subprocess
@@ -310,41 +309,6 @@ def test_served_by_curl_beside_connections_that_break(filled: Office) -> None:
     with filled.serve(1, server.port) as again:
         assert curl(f"{expect_served(again)}/public/fonds") == TOP
         assert again.wait_for_end() == DONE
-
-
-@pytest.mark.needs("curl")
-def test_backup_of_a_server_that_was_stopped(office: Office) -> None:
-    """It leaves the newest changes only in the log. `check` writes them into the file, which then holds the whole office. To
-    go back to a copy of that file, one removes the log of the later changes too."""
-    log = Path(f"{office.store}-wal")
-
-    def register(ticket: int, name: str) -> None:
-        """Starts a server, registers a reader, and stops it as a service manager does."""
-        with office.serve(9) as server:
-            body = f'{{"name":"{name}","until":"2024-12-31"}}'
-            assert curl("-d", body, f"{expect_served(server)}/desk/register") == f'{{"ticket":{ticket}}}'
-            server.process.send_signal(signal.SIGTERM)
-            assert server.wait_for_end() == Ended(-signal.SIGTERM, b"", b"")
-
-    def readers(it: Office) -> list[str]:
-        ended = it.talk(client.get("/desk/readers/1"), client.get("/desk/readers/2"))
-        return [reply.json()["name"] for reply in client.replies(ended.output) if reply.status == 200]
-
-    register(1, "ANN")
-    early = copy_office(office, office.store, "early.db")
-    assert office.check() == SOUND
-    assert log.stat().st_size == EMPTY_LOG
-    backup = copy_office(office, office.store, "backup.db")
-    assert readers(early) == [], "a copy of before the check"
-    register(2, "BEN")
-    both = copy_office(office, office.store, "both.db")
-    shutil.copyfile(log, f"{both.store}-wal")
-    assert readers(both) == ["ANN", "BEN"], "a copy with its log"
-    office.store.unlink()
-    log.unlink()
-    shutil.copyfile(backup.store, office.store)
-    assert office.check() == SOUND
-    assert readers(office) == ["ANN"], "who is in the backup"
 
 
 # ---- SQLite's own tool

@@ -13,7 +13,7 @@ from acceptance.client import SOUND, Ended, Office, Program, get, post
 
 pytestmark = pytest.mark.needs("sqlite3")
 VERSION_1 = Path(__file__).resolve().parent / "version1.db"
-MIGRATED, OLD = Ended(0, b"migrated\n", b""), Ended(1, b"old version\n", b"")
+MIGRATED = Ended(0, b"migrated\n", b"")
 STORE_FAULT = Ended(3, b"", b"store fault\n")
 HEADER = "legacyId,parentId,identifier,title,publicationStatus,physicalObjectName\n"
 FIRST = HEADER + (
@@ -123,25 +123,3 @@ def test_analyzed(migrated: Office, room: Path, second: Path) -> None:
     sqlite3(again.store, "DROP TABLE sqlite_stat1")
     assert again.check() == SOUND
     assert contents_of(again.store) == contents_of(migrated.store)
-
-
-def test_version_1_analyzed(migrated: Office, room: Path) -> None:
-    old = Office(migrated.program, room / "old.db")
-    shutil.copyfile(VERSION_1, old.store)
-    sqlite3(old.store, "ANALYZE")
-    assert old.perform("migrate") == STORE_FAULT
-    sqlite3(old.store, "DROP TABLE sqlite_stat1")
-    assert old.perform("migrate") == MIGRATED
-    assert contents_of(old.store) == contents_of(migrated.store)
-
-
-@pytest.mark.parametrize("way", WAYS)
-def test_version_1_written_again_and_migrated(way: str, migrated: Office, room: Path) -> None:
-    old = Office(migrated.program, room / "old.db")
-    WAYS[way](VERSION_1, old.store)
-    assert old.check() == OLD
-    assert old.perform("migrate") == MIGRATED
-    assert old.check() == SOUND
-    assert contents_of(old.store) == contents_of(migrated.store)
-    sqlite3(old.store, "VACUUM")
-    assert old.check() == SOUND

@@ -1,11 +1,8 @@
-"""A server over its sockets: how it writes, whom it waits for and how long, and who can connect."""
+"""A server over its sockets: many requests on one connection, whom it waits for and how long, and who can connect."""
 
 import contextlib
 import re
-import shutil
-import signal
 import socket
-import subprocess
 import threading
 import time
 from collections.abc import Callable, Iterator
@@ -122,32 +119,6 @@ def test_200_000_requests_keep_no_memory(serve: Serve) -> None:
             status = Path(f"/proc/{server.process.pid}/status").read_text()
             resident += [int(it) for it in re.findall(r"VmRSS:\s*(\d+) kB", status)]
     assert max(resident) - resident[0] < 1024, f"KiB after each connection: {resident}"
-
-
-@pytest.mark.needs("curl")
-def test_1000_requests_of_one_curl_within_10_seconds(serve: Serve) -> None:
-    with serve(9) as server:
-        begun = time.monotonic()
-        url = f"http://{HOST}:{server.port}/public/fonds?[1-1000]"
-        told = subprocess.run(["curl", "-s", "-S", url], capture_output=True, check=False).stdout
-        assert told.count(b"\n") == 1000
-        assert time.monotonic() - begun < 10
-
-
-@pytest.mark.skipif(not shutil.which("strace"), reason="strace is not here")
-def test_an_answer_that_fits_is_one_write_and_a_long_one_two(serve: Serve, room: Path) -> None:
-    with serve(9, 20) as server:
-        calls, traced = room / "calls", "trace=sendto,write,writev,sendmsg"
-        words = ["strace", "-f", "-q", "-e", traced, "-o", str(calls), "-p", str(server.process.pid)]
-        tracer = subprocess.Popen(words)
-        time.sleep(1)
-        with Talk(server.connect()) as it:
-            for request in [FONDS] * 1000 + [AID] * 3:
-                it.ask(request)
-        tracer.send_signal(signal.SIGINT)
-        tracer.wait()
-        lines = calls.read_text(encoding="utf-8", errors="replace").splitlines()
-        assert len([it for it in lines if re.search(r"(sendto|write|writev|sendmsg)\(", it)]) == 1000 + 2 * 3
 
 
 # ---- answers that close

@@ -17,11 +17,10 @@ FOREVER = 10**6  # a round with this sweep looks at all pages
 
 
 class Searched(Office):
-    """An office whose front takes more searches in a row. `more`: further changes of its configuration."""
+    """An office whose front takes more searches in a row."""
 
-    def __init__(self, program, folder, more=(), **how):
-        changes = [("searches:2m rate=2r/s", "searches:2m rate=300r/s"), *more]
-        super().__init__(program, folder, changes=changes, **how)
+    def __init__(self, program, folder, **how):
+        super().__init__(program, folder, changes=[("searches:2m rate=2r/s", "searches:2m rate=300r/s")], **how)
         self.desk, self.public_ask = None, None
 
     def ask(self, path):

@@ -1,29 +1,9 @@
 """The readers' pages as the service sends them, read without a browser."""
 
 import html.parser
-import http.client
 import re
-import urllib.parse
 
 DAY = re.compile(r'<time datetime="([^"]*)">[^<]*</time>')
-
-
-class Site:
-    """The readers' site of an office."""
-
-    def __init__(self, office):
-        self.port = office.ports["8080"]
-
-    def ask(self, path, method="GET", body=None, **headers):
-        it = http.client.HTTPConnection("127.0.0.1", self.port, timeout=300)
-        it.request(method, path, body, headers)
-        answer = it.getresponse()
-        return answer.status, dict(answer.getheaders()), answer.read().decode()
-
-    def send(self, path, form):
-        """Status and text of the answer to a form: pairs, or members."""
-        status, _, text = self.ask(path, "POST", urllib.parse.urlencode(form))
-        return status, text
 
 
 class Tree(html.parser.HTMLParser):

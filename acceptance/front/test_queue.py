@@ -79,17 +79,6 @@ def test_who_waits_longest_does_not_go_first(office):
     assert [way.sender.got[0][0] for way in ways] == [200] * len(ways), "each is answered"
 
 
-def test_for_whom_the_readers_service_asks(office):
-    told = []
-    with office.without_queue(), StandIn(office.queue, at_once=8) as queue:
-        for agent in ("Mozilla/5.0", "Examplebot/1.0"):
-            before = len(queue.requests)
-            ask(office, "/unit/1", headers={"User-Agent": agent}).read()
-            told.append({line for head, _ in queue.requests[before:] for line in head.lower().split("\r\n")
-                         if line.startswith("record-office-for")})
-    assert told == [{"record-office-for: page"}, {"record-office-for: crawler"}], "for whom the service asks"
-
-
 def ask(office, path, port="8080", headers=None):
     """The answer to a question; its body is not read yet."""
     connection = http.client.HTTPConnection("127.0.0.1", office.ports[port], timeout=60)

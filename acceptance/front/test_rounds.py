@@ -127,6 +127,15 @@ def test_a_file_is_not_found_by_the_name_that_its_archive_had(db):
     assert find(db, office, typed="docks buoys").units == []
 
 
+def test_the_way_to_a_unit_that_has_moved_is_that_of_now_or_none(db):
+    office = Office()
+    read(db, office)
+    [before] = find(db, office, typed="buoys").units
+    office.below = {6: (2,), 2: (3,), 1: (4,), 4: (5,)}
+    [after] = find(db, office, typed="buoys").units
+    assert [step["unit"] for step in before["way"]] == [1, 2] and after["way"] is None
+
+
 def test_of_an_archive_only_the_pages_of_what_changed_are_asked_for(db):
     """One unit with another title does not make the office print all the others, round by round."""
     office = Office()
@@ -179,6 +188,7 @@ def test_a_reader_who_goes_on_to_more_units_makes_the_office_print_no_more_than_
     fill(db, 1000)
     more = find(db, Office(), after=(0, index.row_of(1, 20)))
     assert (len(more.units), more.count, more.looked) == (SHOWN, COUNTED, COUNTED + 1)
+    assert more.units[0]["unit"] == 21, "nor is the last one shown again"
 
 
 def test_a_unit_that_has_moved_is_found_within_its_new_archive(db):

@@ -79,14 +79,6 @@ def test_each_finding_aid_as_a_page_and_as_plain_text(asks, units):
         assert asks.question(path) == asks.question(path, True), f"{path} as the program answers it at the desk"
 
 
-def test_each_line_of_a_finding_aid_leads_to_its_unit(asks, office):
-    for line in asks.text("/public/fonds").splitlines():
-        links = Tree(asks.text(f"/aid/{line.split()[0]}")).links(r"/aid/.*\?head=.*")
-        for address, text in links[:6] + links[-6:]:
-            found, path = leads_to(office, address)
-            assert (found, asks.text(f"/public/units/{path[6:]}").split("\n")[0]) == (302, text)
-
-
 @pytest.mark.parametrize("path, kept", [("/search?q=plans&from=1800", "q=plans&from=1800&"), ("/fr/unit/1", "")])
 def test_in_another_language_what_was_asked_for_stays(asks, office, path, kept):
     links = Tree(asks.text(path)).links(r"\?.*lang=.*")
