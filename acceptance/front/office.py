@@ -273,8 +273,9 @@ class Office(client.Office):
         own.parent.mkdir(exist_ok=True)
         own.write_text(json.dumps(json.loads(self.words.read_text("utf-8")) | {"site": SITE}))
         with open(self.folder / "my.told", "a") as log:
-            words = [PYTHON, "-B", "-s", FRONT / "my/my_orders.py", "--queue", self.folder / "my/queue.sock", "--state",
-                     own.parent, "--listen", place, "--words", own, "--orders", "6000", "--desk", self.folder / "my.sock", *more]
+            words = [PYTHON, "-B", "-s", FRONT / "my/my_orders.py", "--queue", self.folder / "my/queue.sock",
+                     "--state", own.parent, "--listen", place, "--words", own, "--orders", "6000",
+                     "--desk", self.folder / "my.sock", *more]
             self.showing = subprocess.Popen([str(word) for word in words], stdout=log, stderr=log,
                                             env={**os.environ, "PYTHONPATH": str(READERS)})  # as its unit has it
         for name in ("my", "cards"):
@@ -380,8 +381,8 @@ class Office(client.Office):
             self.waiting.set()
 
     def copy_store(self, path: str | pathlib.Path) -> None:
-        """Copies the store as the backup does, while the program is away: to this path, or under this name to the copies of the
-        night."""
+        """Copies the store as the backup does, while the program is away: to this path, or under this name to the copies
+        of the night."""
         with self.without_program():
             subprocess.run(["sqlite3", self.store, f".backup {self.copies / path}"], check=True)
         self.wait_for(self.public + "/public/fonds")

@@ -257,7 +257,8 @@ def test_a_secret_is_in_no_log_no_cache_and_no_index(desk_state, office):
     assert {Reader(office).ask(f"/my/{reader.secret}").status, reader.ask("/my").status} == {503}
     office.serve_my("--messages", "yes")
     letters = reader.secret.partition("-")[2]
-    until(lambda: '"GET /my" 503' in (office.folder / "access.log").read_text(), "the log has the last line")
+    reader.ask("/last.css")
+    until(lambda: "/last.css" in (office.folder / "access.log").read_text(), "the log has the last line")
     for path in sorted(office.folder.rglob("*")):
         if path.is_file() and path.suffix in (".log", ".told"):
             assert letters not in path.read_text("utf-8", "replace").replace(f"/{reader.secret}/my HTTP", ""), path.name

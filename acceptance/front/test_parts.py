@@ -44,12 +44,14 @@ def front(module_room):
     front.end()
 
 
-def ask(front, name, path, password=PASSWORD[1]):
-    """What the desk answers to somebody: status and body; and whether it came to one of those behind."""
+def ask(front, name, path, password=PASSWORD[1], other=False):
+    """What the desk answers to somebody: status and body; and whether it came to one of those behind. other: to the other one
+    of GET and POST."""
     for one in front.behind:
         one.requests.clear()
     port = front.ports["8081"]
-    method, body = ("POST", "{}") if path in COMMANDS or path.startswith(("/try/", "/desk/import/")) else ("GET", None)
+    is_command = (path in COMMANDS or path.startswith(("/try/", "/desk/import/"))) != other
+    method, body = ("POST", "{}") if is_command else ("GET", None)
     answer = ask_once(port, method, path, body, f"127.0.0.1:{port}", signed_in(name, password))
     return status(answer), body_of(answer).decode(), any(one.requests for one in front.behind)
 
@@ -64,17 +66,21 @@ def test_each_part_of_the_staff_reaches_what_is_its_own_and_nothing_else(front, 
         if may:
             assert came == behind and got in ((401,) if path == "/sign-out" else (200,) if behind else (200, 204)), (path, got)
         else:
-            assert (got, body, came) == (403, f'{{"error":"not your part","needs":"{least}"}}', False), path
+            refused = 403, f'{{"error":"not your part","needs":"{least}"}}', False
+            assert (got, body, came) == refused == ask(front, STAFF[part], path, other=True), path
 
 
 def test_the_table_has_every_route_of_the_program_and_every_list():
     routes = {*COMMANDS, *(f"{path}N" if path.endswith("/") else path for path in QUESTIONS), "/desk/import/SOURCE"}
+    tries = re.search(r"\^/try/(.*)", (FRONT / "server/desk.conf").read_text("utf-8"))[1]
+    tries = {*re.findall(r"\b[a-z]{4,}\b", tries)} - {"dates"}
+    assert tries == {path.split("/")[2] for path in TABLE if path.startswith("/try/")}
     scripts = [path.read_text("utf-8") for folder in ("desk", "shared") for path in sorted((FRONT / folder).glob("*.js"))]
     asked = {path for script in scripts for path in re.findall(r"fetch\('(/[\w.-]+\.json)'", script)}
     lists = (TOP / "packaging/lists/lists.sql").read_text("utf-8")
     found = re.findall(r"^-- list: (.*)\n-- title: .*\n(?:-- part: (.*)\n)?", lists, re.M)
     assert {f"/lists/{name}": part or "all" for name, part in found}.items() <= TABLE.items(), "each list is for its part"
-    assert routes | asked <= TABLE.keys(), (routes | asked) - TABLE.keys()
+    assert routes | asked | {"/my/N"} <= TABLE.keys(), (routes | asked) - TABLE.keys()
     listed = {path for path in TABLE if path.startswith(("/desk/", "/public/"))}
     assert listed <= routes, listed - routes
 

@@ -130,7 +130,7 @@ def main():
     words.add_argument("--copies", type=pathlib.Path, required=True, help="the folder of the backup's copies")
     words.add_argument("--files", type=pathlib.Path, required=True, help="where the last file of each source is kept")
     words.add_argument("--listen", required=True, help="the socket for nginx")
-    words.add_argument("--ordered", type=pathlib.Path, nargs="*", default=[], help="sockets where others tell what was ordered")
+    words.add_argument("--ordered", type=pathlib.Path, nargs="*", default=[], help="sockets where what was ordered is told")
     words.add_argument("--program", default="record_office", help="default: record_office")
     given = words.parse_args()
     signal.signal(signal.SIGTERM, lambda *_: sys.exit(0))
