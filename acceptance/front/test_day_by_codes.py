@@ -52,7 +52,8 @@ def kept(office, select):
 def order_on(asks, way, unit, box):
     """Sends a reader's order for a unit: from its page, or on My orders."""
     secret = asks.read(f"/my/{BEN}")["address"].rpartition("/")[2]
-    path, form = {"page": (f"/unit/{unit}/order", f"ticket={BEN}&container={box}"), "my": ("/my/order", f"container={unit}-{box}")}[way]
+    path, form = {"page": (f"/unit/{unit}/order", f"ticket={BEN}&container={box}"),
+                  "my": ("/my/order", f"container={unit}-{box}")}[way]
     assert asks.send("POST", path, form, fields={"Cookie": f"my={secret}"})[0] == 200
 
 
