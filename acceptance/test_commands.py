@@ -34,19 +34,6 @@ BEYOND = {name: (0, most + 1) for name, most in HIGHEST.items()}
 BAD_SETTINGS, BAD_DATE = Ended(2, b"", b"bad settings\n"), Ended(2, b"", b"bad date\n")
 ANN = client.post("/desk/register", '{"name":"Ann","until":"2024-12-31"}')
 PREVIEW = ["preview", "--country", "GB", "--repo", "0999"]
-# words that name no command, with what clap says of them
-NO_COMMAND = {
-    "": "'record_office' requires a subcommand but one was not provided\n"
-        "  [subcommands: preview, init, trial, import, talk, serve, check, migrate]\n\n"
-        "Usage: record_office <COMMAND>",
-    "serve --store f": "the following required arguments were not provided:\n  --port <PORT>\n  --connections <NUMBER>"
-        "\n\nUsage: record_office serve --store <STORE> --port <PORT> --connections <NUMBER>",
-    "serve --store f --port 0 --connections 1": "invalid value '0' for '--port <PORT>': 0 is not in 1..=65535",
-    "trial --country GB --repo 0999 --seats two --daily 3 --hands 1 --run 2 --day 2024-03-01":
-        "invalid value 'two' for '--seats <NUMBER>': invalid digit found in string",
-    "trial --country GB --repo 0999 --seats 4294967296 --daily 3 --hands 1 --run 2 --day today":
-        "invalid value '4294967296' for '--seats <NUMBER>': 4294967296 is not in 0..=4294967295",
-}  # fmt: skip
 # settings that differ from the usual ones, and how they are refused; the day is judged first
 SETTINGS_SAID = [
     *(({name: value}, BAD_SETTINGS) for name, values in BEYOND.items() for value in values),
@@ -59,14 +46,6 @@ SETTINGS_SAID = [
 # words that are refused, with the message; `error` is what clap says of words that it does not take
 REFUSED_WORDS = client.table(HERE / "command_lines.txt")
 FIRST_FAULTS = {"bad settings": BAD_SETTINGS, "bad date": BAD_DATE, "file fault": FILE_FAULT}
-# files, and words of a preview with the codes and the file that they name
-PREVIEWED = "a.csv", "-h", "-"
-PREVIEWS = {
-    "--country=FR --repo=x=y a.csv": ("FR x=y", "a.csv"),
-    "a.csv --repo 1 --country FR": ("FR 1", "a.csv"),
-    "--country GB --repo 1 -- -h": ("GB 1", "-h"),
-    "--country GB --repo 1 -": ("GB 1", "-"),
-}
 needs_sqlite3 = pytest.mark.needs("sqlite3")
 Unread = Callable[..., Ended]
 
@@ -133,12 +112,8 @@ def test_help(file: Path, word: str, unread: Unread) -> None:
     assert unread([*command, word]) == Ended(2, b"", file.read_bytes())
 
 
-@pytest.mark.parametrize("words", NO_COMMAND)
-def test_words_that_name_no_command_are_told_what_clap_says(words: str, unread: Unread) -> None:
-    assert unread(words) == refused(f"error: {NO_COMMAND[words]}\n\nFor more information, try '--help'.")
-
-
-@pytest.mark.parametrize("words", [*(words for words, message in REFUSED_WORDS if message == "error"), [b"preview", b"\xff"]])
+@pytest.mark.parametrize("words", [
+    *(words for words, message in REFUSED_WORDS if message == "error"), "", [b"preview", b"\xff"]])
 def test_words_that_are_refused(words: str | list[bytes], unread: Unread) -> None:
     status, output, message = unread(words)
     assert (status, output, message[:7], message[-1:]) == (2, b"", b"error: ", b"\n")
@@ -154,14 +129,6 @@ def test_settings_at_limits_and_beyond(changed: client.Settings, wanted: Ended, 
 def test_settings_are_judged_before_a_file_is_read_and_that_before_a_store_is_opened(
         words: str, message: str, unread: Unread) -> None:
     assert unread(words) == FIRST_FAULTS[message]
-
-
-@pytest.mark.parametrize("words", PREVIEWS)
-def test_preview_of_the_codes_and_the_file_that_the_words_name(words: str, room: Path, unread: Unread) -> None:
-    for name in PREVIEWED:
-        (room / name).write_text(f"{HEADER}1,,A,{name},Fonds,Published\n")
-    code, name = PREVIEWS[words]
-    assert unread(f"preview {words}", room=room) == printed(f"{code} A [Fonds] {name}\n")
 
 
 @pytest.mark.parametrize("said, wanted", [

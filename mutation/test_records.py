@@ -48,13 +48,6 @@ def test_an_edit_has_the_name_of_its_file_and_changes_of_more_files(tmp_path: Pa
     assert (record.name, record.folder, record.noticed_by) == ("nothing_is_done", "office", "the compiler")
 
 
-@pytest.mark.parametrize("text", [
-    "rule: one\nfile: a\nnew: x\n", "file: a\nold: x\nnew: y\n", "rule: one\nold: x\n", "rule: one\nby: x\n"])
-def test_what_is_no_record_is_told(text: str, tmp_path: Path) -> None:
-    with pytest.raises(ValueError):
-        list(records.of_file(written(tmp_path / "a.rules", text), ""))
-
-
 @pytest.mark.parametrize("files, why", [
     ({}, ""), ({"b.rt": "four four"}, "an old text stands 2 times in b.rt"),
     ({"a.rt": "one"}, "an old text stands 0 times in a.rt"), ({"b.rt": ""}, "an old text stands 0 times in b.rt"),
@@ -74,8 +67,3 @@ def test_verdicts() -> None:
     assert (verdicts.line(), verdicts.status()) == ("1 refused", 0)
     verdicts.add("PROVED")
     assert (verdicts.line(), verdicts.status()) == ("1 refused, 1 PROVED", 1), "each must be noticed"
-
-
-def test_what_cannot_be_tried_is_printed_and_counted(capsys: pytest.CaptureFixture[str]) -> None:
-    assert trials.cannot_be_tried([1, 2, 3], lambda it: "it is even" if it % 2 == 0 else "", str) == 1
-    assert capsys.readouterr().out == "cannot be tried: 2: it is even\n"

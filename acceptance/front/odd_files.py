@@ -182,6 +182,8 @@ def rows() -> Named:
         yield f"cultures {cultures}", bare(*lines, header="legacyId,culture,title").encode()
     for title in ("x" * 60, "x" * 61, "é" * 61, ASTRAL * 61, "a\u0301" * 40, " ", "“x”"):
         yield f"a title of {len(title)}: {title[0]!r}", bare(f"1,,{title}", header="legacyId,parentId,title,x").encode()
+    yield "all of it three times", (SHORT * 3).encode()
+    yield "all of it twice, the second longer", (SHORT + SHORT + "9,,Nine,Published\r\n").encode()
 
 
 def limits() -> Named:
@@ -213,19 +215,6 @@ def limits() -> Named:
 def chain(many):
     """Units of which each lies below the one before it."""
     return [unit(str(level), str(level - 1) if level > 1 else "", identifier=str(level % 10)) for level in range(1, many + 1)]
-
-
-def repeats() -> Named:
-    """Files that repeat themselves, wholly or not, and headers among the rows."""
-    header, *lines = SHORT.split("\r\n")[:-1]
-    more = ["3,1,Plans,Published", "4,3,Maps,Draft"]
-    pieces = {"whole": [header, *lines], "rows": lines, "first": lines[:1], "header": [header], "other": ["1,,Other,Draft"],
-              "more": more, "empty": [""], "three": [header, *lines, more[0]]}
-    for one, other in itertools.product(pieces, pieces):
-        yield f"and {one}, {other}", bare(*lines, *pieces[one], *pieces[other], header=header).encode()
-    yield "from the second row on", bare(*lines, *more, *lines[1:], header=header).encode()
-    yield "three times", (SHORT * 3).encode()
-    yield "twice, the second longer", (SHORT + SHORT + "9,,Nine,Published\r\n").encode()
 
 
 # What the units are together
@@ -403,5 +392,5 @@ def converted() -> Named:
 
 
 GROUPS: dict[str, Callable[[], Named]] = {group.__name__: group for group in (
-    ways, zips, encodings, beginnings, exports, headers, rows, limits, repeats, parents, numbers, words, boxes, values, events,
+    ways, zips, encodings, beginnings, exports, headers, rows, limits, parents, numbers, words, boxes, values, events,
     quotes, converted)}

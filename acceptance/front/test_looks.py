@@ -120,12 +120,6 @@ def test_another_name_of_a_column_is_known(also, name):
     assert meant(also, COLUMNS) == []
 
 
-@pytest.mark.parametrize("name", COLUMNS[1:])
-def test_a_column_in_other_letters_or_another_number_is_known(name):
-    for other in (name.upper(), name[:-1] if name.endswith("s") else f"{name}s", f"{name[:3]}-{name[3:]}"):
-        assert meant(other, [one for one in COLUMNS if one != name]) == [(other, name)]
-
-
 def meant(other, columns):
     """Which columns that are not read are taken for which, in a file with these columns and another one."""
     seen = Look(RULES).at(csv_text(unit("1"), columns=[*columns, other]).encode())

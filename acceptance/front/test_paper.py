@@ -71,11 +71,6 @@ def test_what_is_printed_fits_on_its_sheets(desk, room, hash_, words, most):
     assert 1 <= (room / "printed.pdf").read_bytes().count(b"/Type /Page\n") <= most
 
 
-def test_today_says_what_can_be_known_of_the_day(desk):
-    """No more: the office does not tell it."""
-    desk.at("/").see("The newest is run 1 of 2024-03-01: this day is open, or a later one.")
-
-
 def test_each_unit_below_is_there_once_and_what_can_be_done_stands_before_them(desk):
     desk.at("/units/2").see("What the public sees")
     shown = desk.js(UNIT_LINKS)

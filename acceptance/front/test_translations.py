@@ -1,5 +1,5 @@
-"""Both sites in each language: nothing is said without a key, no word is too long for its place on a phone, a reader's and a
-clerk's way, and what chooses the language.
+"""Both sites in each language: nothing is said without a key, no word is too long for its place on a phone, and what
+chooses the language.
 
 What has no key is found in a language of its own, Hebrew by name: each text of its catalog is the English one in brackets, and
 the pages are laid out from right to left."""
@@ -15,7 +15,7 @@ from acceptance.front import office as offices
 from acceptance.front.catalogue import archives, dock_company
 from acceptance.front.measured import Measured
 from acceptance.front.office import FRONT, MANY_PAGES
-from acceptance.front.page_states import DESK, FAR, STATES, settle
+from acceptance.front.page_states import DESK, STATES, settle
 from acceptance.front.spoken import BRACKETS, Spoken, Texts
 
 pytestmark = [pytest.mark.browser, pytest.mark.needs("chromium")]
@@ -105,28 +105,6 @@ def test_a_page_has_room_for_its_words_in_each_language_and_a_key_for_each_text(
         tab.answer_with(None, 0, b"")
         tab.js("sessionStorage.clear()")
     assert not broken
-
-
-@pytest.mark.parametrize("code", CODES)
-def test_a_clerk_and_a_reader_find_their_way(speak, asks, numbers, code):
-    """A clerk registers a reader, who orders on the readers' pages and gets a seat; a run finds nothing."""
-    hall, desk = speak(code)
-    ticket = asks.next_ticket()
-    desk.at("/readers").fill("Name", f"Reader of {code}", "Register a reader")
-    desk.fill("Last day of the ticket", FAR, "Register a reader")
-    desk.press("Register", "Register a reader")
-    desk.see("Registered: {reader}, good until {until}.")
-    hall.visit(f"/unit/{numbers.plans}")
-    hall.press_starting("Order")
-    hall.fill("Number of your reader’s ticket", str(ticket))
-    hall.js("document.querySelector('details.order input[type=checkbox]').click()")
-    hall.press("Order these containers")
-    hall.see("Ordered. Your order has the number %(order)s.")
-    desk.at(f"/readers/{ticket}").see(desk.texts.say("waiting"))
-    desk.press("Give a seat", "Seat")
-    desk.see("Seat {seat}.")
-    desk.at("/runs").press("Begin a run")
-    desk.see("There is nothing to fetch: no order waits for a container that is on its shelf and open to its reader today.")
 
 
 @pytest.mark.parametrize("code", CODES)
