@@ -15,7 +15,7 @@ import pytest
 from acceptance import client
 from acceptance.client import Office, Program, get, post
 
-SIZES = 35, 70, 140  # of up to 32 boxes the places are sought one by one
+SIZES = 25, 50, 100  # a run takes at most 100
 FLAT, LINEAR, SQUARE = 0, 2.3, 4.6
 READERS = [post("/desk/register", {"name": "Ann", "until": "2029-12-31"})] * 30
 SEATS = [post("/desk/seat", {"ticket": it}) for it in range(1, 31)]
@@ -62,12 +62,13 @@ def units(n: int) -> Iterator[bytes]:
 
 
 def desk(n: int) -> Iterator[bytes]:
-    """n boxes are out, for each an order waits, and n are at the desk. Ticket 1 has 4n orders that are cancelled."""
-    yield import_of("a", [("", "Published", ""), *((1, "Published", f"Box {it}") for it in range(2 * n + 3))])
+    """n boxes are out, for each an order waits, and for nine others; n are at the desk. Ticket 1 has 4n cancelled orders."""
+    yield import_of("a", [("", "Published", ""), *((1, "Published", f"Box {it}") for it in range(2 * n + 12))])
     ended = ((loan("/public/orders", 1, 1), post("/desk/cancel", {"order": it})) for it in range(1, 4 * n + 1))
     yield from (*READERS, *over_days(ended), *SEATS, *lent(range(1, n + 1)))
     yield from (loan("/public/orders", 2 * n + 1, 30), *(loan("/public/orders", it) for it in range(n + 1, 2 * n)), RUN)
     yield from (loan("/public/orders", it, 2 + (n + it) // 10) for it in range(1, n + 1))
+    yield from (loan("/public/orders", 2 * n + it, 29) for it in range(4, 13))  # of up to 32 boxes places are sought one by one
 
 
 def permits(n: int) -> Iterator[bytes]:
@@ -89,14 +90,15 @@ SHAPES: dict[str, tuple[Setup, float, Callable[[int], bytes]]] = {
     # a removal asks after it has removed, and an import reads all marks if anything is out (DECISIONS)
     "a removal that is refused, with n below": (units, LINEAR, lambda n: post("/desk/remove", {"unit": 2})),
     "a file of one row beside n units in a box that is out": (units, LINEAR, lambda n: import_of("b", [("", "Published", "")])),
-    "a file of n rows again": (units, LINEAR, units_file),
     "a move of n levels whose boxes are out": (units, LINEAR, lambda n: post("/desk/move", {"unit": 4 * n + 6, "parent": 2})),
+    "a file of n rows again": (units, LINEAR, units_file),
     "an order for a ticket with n ended orders": (desk, FLAT, lambda n: loan("/public/orders", 2 * n + 2, 1)),
     "the card of a ticket with n ended orders": (desk, FLAT, lambda n: get("/desk/readers/1")),
     "a run beside n orders that wait": (desk, LINEAR, lambda n: RUN),  # it reads all of them (DECISIONS)
     "an issue beside n boxes at the desk": (desk, FLAT, lambda n: loan("/desk/issue", 2 * n + 1, 30)),
-    "a closure beside n boxes out": (desk, FLAT, lambda n: post("/desk/closure", {"unit": 2 * n + 4, **CLOSED})),
-    "a status beside n boxes out": (desk, FLAT, lambda n: post("/desk/status", {"unit": 2 * n + 4, **HIDDEN})),
+    # the path of the unit is sought among n siblings (RESULTS)
+    "a closure beside n boxes out": (desk, LINEAR, lambda n: post("/desk/closure", {"unit": 2 * n + 4, **CLOSED})),
+    "a status beside n boxes out": (desk, LINEAR, lambda n: post("/desk/status", {"unit": 2 * n + 4, **HIDDEN})),
     "a run of n boxes of a unit for n permits": (permits, SQUARE, lambda n: RUN),  # permits are read for each box (RESULTS)
 }
 
@@ -113,8 +115,9 @@ def counted(program: Program, room: Path, setup: Setup, n: int) -> dict[str, int
     ended = subprocess.run([*tool, program.path, "talk", "--store", office.store], input=asked, capture_output=True)
     answered, parts = client.replies(ended.stdout), sorted(room.glob(f"{part}.*"), key=lambda it: int(it.suffix[1:]))
     assert [it.status for it in answered[2::2]] == [409 if "refused" in who else 200 for who in shapes]
-    assert len(parts) == len(answered), "an answer is one write"
-    return dict(zip(shapes, [int(it.read_text().partition("\nsummary: ")[2].split()[0]) for it in parts[2::2]]))
+    assert len(parts) - len(answered) in (0, 1), "an answer is one write, but a long one, the last, is two"
+    counts = [int(it.read_text().partition("\nsummary: ")[2].split()[0]) for it in parts]
+    return dict(zip(shapes, [*counts[2:len(answered) - 1:2], sum(counts[len(answered) - 1:])]))
 
 
 @pytest.mark.needs("valgrind")
