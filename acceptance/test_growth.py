@@ -68,7 +68,7 @@ def desk(n: int) -> Iterator[bytes]:
     yield from (*READERS, *over_days(ended), *SEATS, *lent(range(1, n + 1)))
     yield from (loan("/public/orders", 2 * n + 1, 30), *(loan("/public/orders", it) for it in range(n + 1, 2 * n)), RUN)
     yield from (loan("/public/orders", it, 2 + (n + it) // 10) for it in range(1, n + 1))
-    yield from (loan("/public/orders", 2 * n + it, 29) for it in range(4, 13))  # of up to 32 boxes places are sought one by one
+    yield from (loan("/public/orders", 2 * n + it, 29) for it in range(4, 13))  # up to 32 boxes are sought one by one
 
 
 def permits(n: int) -> Iterator[bytes]:
@@ -89,7 +89,7 @@ SHAPES: dict[str, tuple[Setup, float, Callable[[int], bytes]]] = {
     "an order of an item among n siblings": (units, FLAT, lambda n: loan("/public/orders", n, 1)),
     # a removal asks after it has removed, and an import reads all marks if anything is out (DECISIONS)
     "a removal that is refused, with n below": (units, LINEAR, lambda n: post("/desk/remove", {"unit": 2})),
-    "a file of one row beside n units in a box that is out": (units, LINEAR, lambda n: import_of("b", [("", "Published", "")])),
+    "a file of one row beside n units in a box out": (units, LINEAR, lambda n: import_of("b", [("", "Published", "")])),
     "a move of n levels whose boxes are out": (units, LINEAR, lambda n: post("/desk/move", {"unit": 4 * n + 6, "parent": 2})),
     "a file of n rows again": (units, LINEAR, units_file),
     "an order for a ticket with n ended orders": (desk, FLAT, lambda n: loan("/public/orders", 2 * n + 2, 1)),
@@ -133,7 +133,7 @@ SMALL = re.compile(r"(FROM|INTO|UPDATE) (office|seat|link) ?")  # one row; those
 
 
 def is_slow(tables: sqlite3.Connection, text: str) -> bool:
-    """Whether SQLite finds rows without a key, or the engine, which may have none for IN, OR, IS, or a range after an equality."""
+    """Whether SQLite finds rows without a key, or the engine may: by IN, OR, IS, or a range after an equality."""
     values = [1] * max([0, *map(int, re.findall(r"\?(\d)", text))])
     scans = any(step.startswith("SCAN") for *_, step in tables.execute(f"EXPLAIN QUERY PLAN {text}", values))
     where = text.partition(" WHERE ")[2].partition(" ORDER ")[0]

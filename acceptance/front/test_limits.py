@@ -43,7 +43,7 @@ class Row:
 
 
 def test_questions_in_a_row(office):
-    """Two hundred questions and one more at once, and then fifty a second. With the queue away nginx answers all of them itself:
+    """Two hundred questions and one more at once, and then fifty a second. With the queue away nginx answers all itself:
     faster than any machine's program would."""
     asked, burst, rate = ("GET", "/public/units/1"), 200, 50
     with office.without_queue():
