@@ -46,6 +46,10 @@ archivalHistory,acquisition,physicalObjectName,physicalObjectLocation
 13,12,1,Below the tall one,File,Published,1702,,,,,Tin 6,West
 9,8,1,Müller’s Notebook of the Zürich docks,File,Published,1700,,Straße “und” Brücke,,,,
 """
+LETTERED = """legacyId,identifier,title,levelOfDescription,publicationStatus,eventActors
+1,YA,Letters,Fonds,Published,Яков Петров
+2,KU,Letters,Fonds,Published,ქუთაისის გამგეობა
+"""
 LONG = "Levels, soundings and the names of all who held the staff, with sketches of piles and sills. " * 4
 BUSY = client.reply(503, asking.BUSY)
 UNREACHED = client.reply(503, b'{"error":"not reached"}')
@@ -335,6 +339,16 @@ def test_a_creator_stands_in_the_alphabet_as_long_as_the_public_sees_a_unit_of_i
     assert seen == sorted(set(seen), key=alphabet.key_of) and len(seen) > 20
 
 
+def test_creators_have_letters_of_their_own_as_long_as_a_page_names_them(stage):
+    stage.played.office.post("/desk/import/letters", LETTERED.encode())
+    stage.round()
+    for letter in ("Я", "ქ"):  # in Georgian without a capital
+        assert f">{letter}</a>" in stage.text("/a-z")
+        stage.command("status", unit=max(stage.played.office.units) - (letter == "Я"), status="draft", branch=False)
+        assert f">{letter}</a>" not in stage.text("/a-z")
+    stage.round()
+
+
 @pytest.mark.parametrize("query, own", [("?from=101", "?from=101"), ("?from=2", ""), ("?from=101&has=captain", ""), ("", "")])
 def test_each_hundred_of_a_list_has_its_own_canonical_address(stage, query, own):
     assert f'rel="canonical" href="https://archive.example.org/unit/{LETTERS}{own}">' in stage.text(f"/unit/{LETTERS}{query}")
@@ -414,7 +428,7 @@ def test_searches(stage, approved):
     for args in ("q=dock", "q=captain&order=date", "q=notebok", "q=zzz&from=x", "q=dock&lang=de", "q=Müller",
                  "q=M\u00c3\u00bcller"):
         pages.ask(f"/public/search?{args}")
-    stage.clock.step = 1
+    stage.clock.step = .7
     for args in ("q=captain", "q=notebok", "q=notebook"):
         pages.ask(f"/search?{args}")
         pages.ask(f"/public/search?{args}")

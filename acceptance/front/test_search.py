@@ -1,5 +1,6 @@
 """The search in all archives where random sessions do not go: its bounds, hostile questions, kills, a damaged index."""
 
+import collections
 import contextlib
 import json
 import os
@@ -8,12 +9,14 @@ import random
 import sqlite3
 import threading
 import time
+from types import SimpleNamespace
 from urllib.parse import quote, urlencode
 
 import answers
 import index
 import offers
 import pytest
+import turns
 from answers import Finder, Query
 from asking import Asking, Unreached
 from folding import read_typed
@@ -128,6 +131,32 @@ def test_who_searches_in_a_reading_room_has_taken_an_eighth():
         with it.turn(address, is_room):
             time.sleep(.2)
     assert it.spent["192.0.2.1"][0] * 4 < it.spent["192.0.2.2"][0]
+
+
+def test_who_asks_once_at_a_time_waits_for_one_search_at_most_beside_twenty_addresses_at_their_limit(monkeypatch):
+    """Also who has taken more than any of these, since its searches take longer."""
+    it, clock, waits, goes, mine, came, again = Turns(), SimpleNamespace(now=0.0), [], {}, None, 0.0, 1.0
+    clock.monotonic = lambda: clock.now
+    monkeypatch.setattr(turns, "time", clock)
+    for step in range(800):
+        clock.now = step / 10
+        with it.lock:
+            for search in [search for search, end in goes.items() if clock.now >= end]:
+                it.end(search)
+                del goes[search]
+            many = collections.Counter(search.who[0] for search in (*it.waiting, *goes))
+            for n in range(step % 5, 20, 5):  # each twice a second
+                for _ in range(4 - many[str(n)]):
+                    it.enter(str(n))
+            if mine is None and clock.now >= again:
+                mine, came = it.enter("mine"), clock.now
+            while search := it.next():
+                it.begin(search)
+                goes[search] = clock.now + (1.6 if search is mine else .8 + search.number % 7 / 10)
+                waits += [clock.now - came] * (search is mine)
+        if mine and mine not in it.waiting and mine not in goes:
+            mine, again = None, clock.now + .5
+    assert len(waits) > 30 and max(waits) <= 1.4, waits
 
 
 def test_of_ipv6_a_house_is_one_and_its_networks_are_within_it():

@@ -5,7 +5,7 @@ import time
 import zlib
 from typing import NamedTuple
 
-from asking import SOON, Unreached, spool
+from asking import SOON, Asking, Unreached, spool
 from texts import HEAD, read_head, read_line
 
 PATIENCE = 240  # seconds that a reader may wait behind the aids of others
@@ -34,6 +34,10 @@ class Aids:
             if self.unreached != before:
                 raise Unreached(number)
             time.sleep(max(0.0, self.free - time.monotonic()))
+            if size > A_SECOND:  # whether the office answers at all is known before such an aid begins
+                ask = Asking(self.queue, kind="page")
+                ask.until = time.monotonic() + SOON
+                ask("/public/fonds")
             file, took = spool(self.queue, f"/public/aid/{number}", self.folder, SOON + size / A_SECOND,
                                max(until - time.monotonic(), 1))
             self.free = time.monotonic() + min(took * self.rest, LONGEST)

@@ -9,7 +9,7 @@ import index
 from facets import creators_of
 from texts import Page, read_head
 
-SHOWN = 100
+SHOWN, AFTER_Z = 100, "{"
 
 
 def key_of(name):
@@ -40,7 +40,16 @@ def entries(db, ask, fonds, begin):
     return [one for one, _ in zip(both, range(SHOWN + 1))]
 
 
-def letters(fonds):
-    """The letters to go on from: those of the Latin alphabet, and those with which archives begin. Those of creators would
-    tell of names that nobody has verified."""
-    return sorted({*string.ascii_uppercase, *(key[0].upper() for key, *_ in archives(fonds))})
+def letters(db, ask, fonds):
+    """The letters to go on from: those of the Latin alphabet, those with which archives begin, and those of creators, each of
+    whom the page of a unit names now."""
+    found, begin = {*string.ascii_uppercase, *(letter_of(key) for key, *_ in archives(fonds))}, AFTER_Z
+    while db and len(found) < SHOWN and (key := next((one for one, *_ in creators(db, ask, begin)), None)):
+        found.add(letter_of(key))
+        begin = chr(ord(key[0]) + 1)
+    return sorted(found)
+
+
+def letter_of(key):
+    """The first letter, as names begin with it: in Georgian not with a capital."""
+    return key[0].title()

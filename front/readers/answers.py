@@ -9,13 +9,13 @@ from dataclasses import dataclass, replace
 
 import folding
 import index
-from asking import Busy, Slow, Unreached
+from asking import SOON, Busy, Slow, Unreached
 from facets import Facets, creators_of
 from texts import Page, name_of, own_digest, read_fonds, read_head, value_of, years_of
 from years import EVER
 
 SHOWN, COUNTED = 20, 300  # of one answer: units shown, units counted
-LOOKS, SECONDS = 2000, 5  # candidates looked at, time
+LOOKS, SECONDS = 2000, SOON  # candidates looked at, time
 COUNTING, HURRIED = .7, .15  # seconds after which no more are counted; the same while other readers wait for their turn
 LINES, WIDTH, BEFORE = 2, 240, 60  # of one unit: lines shown, characters of a line, of these before the first mark
 START = (0, 0)  # the place before all others

@@ -10,7 +10,7 @@ import tempfile
 import time
 
 TOOK = "Record-Office-Took"  # the milliseconds that the office took to begin its answer; the gate tells them
-SOON = 5  # seconds after which a reader is told that the office does not answer
+SOON = 3.5  # seconds after which a reader is told that the office does not answer, and has read it within five
 BUSY = b'{"error":"busy"}'  # the program's own 503, as of an answer that needs too much memory; the queue has another
 
 

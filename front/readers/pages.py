@@ -278,7 +278,8 @@ class Pages:
             return {"wrong": orders.NO_BOX if ticket else orders.NO_TICKET, "done": [], "taken": [],
                     "typed": dict(request.form).get("ticket", "")}
         done = orders.give(self.queue, self.desk, self.row, request.address, ticket, items)
-        request.ask.until = max(request.ask.until, time.monotonic() + 1)  # for the page that tells it
+        if all(one.refused not in orders.UNANSWERED for one in done):
+            request.ask.until = max(request.ask.until, time.monotonic() + 1)  # for the page that tells it
         return {"done": done, "taken": [one for one in done if one.order], "ticket": ticket}
 
     # Finding aids
@@ -340,11 +341,14 @@ class Pages:
     def alphabet(self, request):
         """Archives and creators from A to Z, from some letter on."""
         begin = alphabet.key_of(request.args.get("from", ""))
+
+        def look(db):
+            """What is shown, and the letters."""
+            return alphabet.entries(db, ask, fonds, begin), alphabet.letters(db, ask, fonds)
         with self.in_turn(request) as ask:
             fonds = read_fonds(ask("/public/fonds") or "")
-            entries = self.from_index(lambda db: alphabet.entries(db, ask, fonds, begin), None)
-        return self.render(request, "alphabet.html", begin=begin, shown=alphabet.SHOWN, letters=alphabet.letters(fonds),
-                           entries=entries or alphabet.entries(None, None, fonds, begin))
+            entries, letters = self.from_index(look, None) or look(None)
+        return self.render(request, "alphabet.html", begin=begin, shown=alphabet.SHOWN, letters=letters, entries=entries)
 
     def search(self, request):
         """What was found. The office is asked for the list of fonds, and for the page of each candidate."""
