@@ -184,7 +184,8 @@ def test_a_reader_whose_time_is_over_is_not_told_that_the_index_is_being_made(db
     assert find(db, office, .1).state == "late"
 
 
-def test_a_reader_who_goes_on_to_more_units_makes_the_office_print_no_more_than_are_counted(db):
+def test_a_reader_who_goes_on_to_more_units_makes_the_office_print_no_more_than_are_counted(db, monkeypatch):
+    monkeypatch.setattr("answers.COUNTING", 100)  # however slow the machine is
     fill(db, 1000)
     more = find(db, Office(), after=(0, index.row_of(1, 20)))
     assert (len(more.units), more.count, more.looked) == (SHOWN, COUNTED, COUNTED + 1)

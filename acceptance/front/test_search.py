@@ -47,8 +47,9 @@ UNREAD = {"from=x&q=dock": ["from"], "from=1900&to=1800s&q=dock": ["years"], "in
 
 @pytest.fixture(autouse=True)
 def patience(monkeypatch):
-    """What is counted is the same, however slow the machine is."""
+    """What is counted is the same, and nobody waits too long, however slow the machine is."""
     monkeypatch.setattr(answers, "COUNTING", 100)
+    monkeypatch.setattr(turns, "PATIENCE", 100)
 
 
 class Deliberate(StandIn):
