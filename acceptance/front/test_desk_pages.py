@@ -55,11 +55,11 @@ def bare(browser, empty):
 
 
 def shown(page, selector="main"):
-    """The lines that a page shows once all is read, without times and the days of this machine's clock."""
+    """The lines that a page shows once all is read, without times, the days of this machine's clock, and secrets."""
     page.wait("window.asking === 0")
     today = page.js("new Date().toLocaleDateString('sv')")
     text = page.js(f"({SHOWN})({page.quote(selector)})").replace(today, "TODAY")
-    lines = re.sub(r"\b\d\d:\d\d\b(:\d\d)?", "00:00", text).splitlines()
+    lines = re.sub(r"(/my/\d+-)\w{26}", r"\1SECRET", re.sub(r"\b\d\d:\d\d\b(:\d\d)?", "00:00", text)).splitlines()
     return [part for line in lines for part in textwrap.wrap(line, 120, subsequent_indent="      ", drop_whitespace=False)]
 
 
