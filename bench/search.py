@@ -112,13 +112,6 @@ def beside(office, work):
     return took, waits
 
 
-def aid(ask, number):
-    """The size of a finding aid in MB, and how long it takes in milliseconds."""
-    began = time.perf_counter()
-    size = len(ask(f"/public/aid/{number}"))
-    return f"{size / 1e6:.1f} MB, {(time.perf_counter() - began) * 1000:.0f} ms"
-
-
 def rounds(office, ask, db, units):
     """Prints a row for each kind of round."""
     def row(name, work):
@@ -210,7 +203,7 @@ def measure(given, office):
     with office:
         office.tell("/desk/register", {"name": "A reader", "until": "2099-12-31"})
         ask, db = Asking(office.queue, given.rest), index.open_or_make(str(office.index), True)
-        print(f"{given.units} units in fonds of {given.fonds}; one aid: {aid(Asking(office.queue), 1)}")
+        print(f"{given.units} units in fonds of {given.fonds}")
         rounds(office, ask, db, given.units)
         questions(office, db, given.units)
         print("\n| eight readers beside the worst question, ms: p50 / p95 / p99 | |\n|---|---|")
