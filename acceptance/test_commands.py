@@ -229,6 +229,11 @@ def test_no_office_is_made_beside_a_log_that_is_there(program: Program, room: Pa
     assert (office.store.exists(), log.read_bytes()) == (False, b"x")
 
 
+def test_a_session_that_ends_leaves_an_empty_log(office: Office) -> None:
+    office.talk(ANN).expect_success()
+    assert sizes_left(office.store)[1] == EMPTY_LOG
+
+
 def test_a_log_with_changes_stays_if_the_store_beside_it_was_cut(office: Office) -> None:
     log = Path(f"{office.store}-wal")
     with office.session() as session:
