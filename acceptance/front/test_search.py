@@ -136,27 +136,26 @@ def test_who_searches_in_a_reading_room_has_taken_an_eighth():
 
 def test_who_asks_once_at_a_time_waits_for_one_search_at_most_beside_twenty_addresses_at_their_limit(monkeypatch):
     """Also who has taken more than any of these, since its searches take longer."""
-    it, clock, waits, goes, mine, came, again = Turns(), SimpleNamespace(now=0.0), [], {}, None, 0.0, 1.0
-    clock.monotonic = lambda: clock.now
-    monkeypatch.setattr(turns, "time", clock)
+    it, now, waits, goes, mine, came, again = Turns(), 0.0, [], {}, None, 0.0, 1.0
+    monkeypatch.setattr(turns, "time", SimpleNamespace(monotonic=lambda: now))
     for step in range(800):
-        clock.now = step / 10
+        now = step / 10
         with it.lock:
-            for search in [search for search, end in goes.items() if clock.now >= end]:
+            for search in [search for search, end in goes.items() if now >= end]:
                 it.end(search)
                 del goes[search]
             many = collections.Counter(search.who[0] for search in (*it.waiting, *goes))
             for n in range(step % 5, 20, 5):  # each twice a second
                 for _ in range(4 - many[str(n)]):
                     it.enter(str(n))
-            if mine is None and clock.now >= again:
-                mine, came = it.enter("mine"), clock.now
+            if mine is None and now >= again:
+                mine, came = it.enter("mine"), now
             while search := it.next():
                 it.begin(search)
-                goes[search] = clock.now + (1.6 if search is mine else .8 + search.number % 7 / 10)
-                waits += [clock.now - came] * (search is mine)
+                goes[search] = now + (1.6 if search is mine else .8 + search.number % 7 / 10)
+                waits += [now - came] * (search is mine)
         if mine and mine not in it.waiting and mine not in goes:
-            mine, again = None, clock.now + .5
+            mine, again = None, now + .5
     assert len(waits) > 30 and max(waits) <= 1.4, waits
 
 

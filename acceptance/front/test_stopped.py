@@ -52,8 +52,7 @@ class Reader:
 
 
 def longest(office, many):
-    """The longest time that nginx took for one of the last answers, of which so many told that the office does not answer:
-    who asks here may be slow to read them."""
+    """The longest time that nginx took for one of so many answers that told of it: who asks here may read them late."""
     log = office.folder / "access.log"
     lines = until(lambda: [found for found in [[line for line in log.read_text().splitlines() if line.startswith("503 ")]]
                            if len(found) >= many], "the log has them")[0]
