@@ -211,6 +211,10 @@ def test_a_unit_is_closed_and_opened_to_a_reader_by_its_code_and_its_call_slip_h
     type_in(desk, "container", "ddsy/12", "Order a container")
     desk.key("Enter")
     desk.see("for Rental 1")
+    desk.at(f"/counter/{RENTAL}").fill("Ticket", f"{ZOE}", "Order it for a reader")
+    desk.press("Order", "Order it for a reader")
+    desk.see("The reader has ordered this container already.")
+    until(lambda: kept(office, f"SELECT 1 FROM refused WHERE why = 'AlreadyOrdered' AND container = {RENTAL}"), "why is kept")
     office.copy_store("office-2024-03-02.db")
     run = asks.command("/desk/run")["run"]
     desk.at(f"/runs/{run}").see("Wanted: GB 0999 DDSY/12, Rentals Closed until 2030-01-01.")

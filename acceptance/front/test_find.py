@@ -146,5 +146,20 @@ def test_a_draft_in_a_box_is_told_before_the_box_is_ordered(desk):
         desk.type("B4")
         desk.key("Tab")
         desk.see("Not open to everybody in this box:")
-        desk.see("GB 0999 HUL/3, Letters of the secretary Draft")
-    desk.at("/counter/2").see("GB 0999 HUL/2, Plans of the locks, 1803-1829 Closed until 2030-01-01.")
+        desk.see("GB 0999 HUL/3, Letters of the secretary, Series Draft")
+    desk.at("/counter/2").see("GB 0999 HUL/2, Plans of the locks, 1803-1829, Series Closed until 2030-01-01.")
+    desk.see("Strongroom 1")
+
+
+@pytest.mark.browser
+@pytest.mark.needs("chromium")
+def test_a_drafts_page_has_its_boxes_and_a_name_that_the_copy_has_is_asked_about(desk):
+    """Also if the readers' cards cannot be read, as where there are thousands."""
+    desk.at("/units/4").see("GB 0999 HUL/3, Letters of the secretary, Series Draft As of the copy of")
+    desk.see("Box 3, Strongroom 1 container 4")
+    desk.at("/readers").answer_with("*/desk/readers/*", 503, b"{}")
+    desk.fill("Name", "ann smith", "Register a reader")
+    desk.fill("Last day of the ticket", FAR, "Register a reader")
+    desk.press("Register", "Register a reader")
+    desk.see("There is a reader of this name", "dialog")
+    desk.see("ticket 5", "dialog")

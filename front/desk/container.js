@@ -4,23 +4,25 @@ import { el, link, table, words } from '../shared/dom.js';
 import { commandForm } from '../shared/form.js';
 import { phrase, text, textAs } from '../shared/language.js';
 import { deskWords } from '../shared/refusals.js';
-import { giveBack, issue, issued, order, queue } from '../shared/routes.js';
+import { giveBack, issue, issued, queue } from '../shared/routes.js';
 import { lookAtContainer, lookAtReader } from './looks.js';
 import { readerLink } from './names.js';
-import { notOpenIn } from './ordered_box.js';
+import { boxesInCopy } from './night_copy.js';
+import { notOpenIn, orderBox } from './ordered_box.js';
 import { card, problem, said } from './parts.js';
 import { ticketField, ticketOf } from './scans.js';
 
 export async function containerPage(number) {
   const view = { number, told: el('div', { role: 'status' }), panel: el('div', { class: 'panel' }) };
   const isThere = await show(view);
-  const withheld = el('div', {});
+  const [shelf, withheld] = [el('div', {}), el('div', {})];
+  boxesInCopy([number]).then(({ value }) => shelf.replaceChildren(...(value?.boxes ?? []).map(({ location }) => words(location))));
   notOpenIn(number).then((lines) => withheld.replaceChildren(...lines));
   return { title: text('Container {number}', { number }), content: [
     el('h1', {}, text('Container {number}', { number })),
     el('p', { class: 'links no-print' }, link('#/counter', text('Back to the counter')), ' ',
       isThere && link(`#/counter/${number}/label`, text('A label to print'))),
-    view.told, view.panel, withheld,
+    view.told, view.panel, shelf, withheld,
     isThere && card(text('Order it for a reader'), orderForm(view)),
   ] };
 }
@@ -88,7 +90,7 @@ function returnForm(view) {
 function orderForm(view) {
   return commandForm({
     key: `order of container ${view.number}`, fields: [ticketField()], button: text('Order'), kind: 'plain',
-    send: ({ ticket }) => order(ticketOf(ticket), view.number),
+    send: ({ ticket }) => orderBox(ticketOf(ticket), { box: view.number }),
     done: async (value, { ticket }) => {
       await show(view);
       return said(phrase('Order {order} for {reader}.', { order: value.order, reader: readerLink(ticketOf(ticket)) }));

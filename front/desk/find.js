@@ -82,8 +82,9 @@ async function newReaders(typed, last) {
 }
 
 function unitTable({ units, more }) {
-  return units.length > 0 && [table(text('Units'), [text('Reference code'), text('Title'), text('Date(s)'), text('State')], units.map((unit) => [
-    link(`#/units/${unit.unit}`, words(unit.code)), words(unit.title), words(unit.dates), unitState(unit)])), andMore(more.units)];
+  return units.length > 0 && [table(text('Units'), [text('Reference code'), text('Title'), text('Date(s)'), text('Level of description'), text('State')],
+    units.map((unit) => [link(`#/units/${unit.unit}`, words(unit.code)), words(unit.title), words(unit.dates), words(unit.level), unitState(unit)])),
+  andMore(more.units)];
 }
 
 function boxTable({ boxes, more }) {

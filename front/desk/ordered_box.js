@@ -1,12 +1,12 @@
 // What orders a box: a field that takes its number, its code or the reference code of the unit that is wanted, and says what in
 // the box is not open to everybody, as the copy of the night has it. Which unit was wanted is told with the order.
 
-import { el, link, words } from '../shared/dom.js';
+import { el, link } from '../shared/dom.js';
 import { counted, text } from '../shared/language.js';
 import { order } from '../shared/routes.js';
 import { boxesInCopy, tellOrdered } from './night_copy.js';
 import { boxField, boxOf } from './scans.js';
-import { unitMeant, unitState } from './unit_field.js';
+import { boxesOf, unitMeant, unitState, unitWords } from './unit_field.js';
 
 const NO_BOX = { ok: false, kind: 'refused', refused: 'UnknownContainer' };
 const ANY = '(?!\\s*[Tt]\\s*[0-9]+\\s*$).*\\S.*'; // but the code of a ticket
@@ -22,13 +22,13 @@ export function boxOrder() {
     const typed = input.value;
     input.form.addEventListener('reset', () => { meant.unit = null; told.replaceChildren(); }, { once: true });
     await find(meant, typed);
-    const lines = [...boxesOf(meant), ...await notOpenIn(meant.box)];
+    const lines = [...aboutUnit(meant), ...await notOpenIn(meant.box)];
     if (input.value === typed) told.replaceChildren(...lines);
   });
   return {
     fields: [row, told], box: () => meant.box,
     before: async ({ container }) => ((await find(meant, container)) === null ? NO_BOX : null),
-    send: (ticket) => place(ticket, meant),
+    send: (ticket) => orderBox(ticket, meant),
   };
 }
 
@@ -43,19 +43,12 @@ async function find(meant, typed) {
   return meant.box;
 }
 
-const BOXES = [text('It is in no container.'), text('It is in:')];
 const SEVERAL = text('It is in several containers. Type the number of one:');
 
-function boxesOf({ unit }) {
-  return unit ? [
-    el('p', {}, words([unit.code, unit.title, unit.dates].filter(Boolean).join(', ')), ' ', unitState(unit)),
-    el('p', {}, BOXES[unit.boxes.length] ?? SEVERAL),
-    unit.boxes.length > 0 && el('ul', { class: 'lower' }, unit.boxes.map(({ container, name, location }) =>
-      el('li', {}, words([name, location].filter(Boolean).join(', ')), ' ', text('container {number}', { number: container })))),
-  ].filter(Boolean) : [];
-}
+const aboutUnit = ({ unit }) => (unit ? [el('p', {}, unitWords(unit), ' ', unitState(unit)), ...boxesOf(unit, SEVERAL)] : []);
 
-async function place(ticket, { box, unit }) {
+/** Orders a box, for a unit if that is known, and tells what was wanted, or why it was refused. */
+export async function orderBox(ticket, { box, unit = null }) {
   const answer = await order(ticket, box);
   if (answer.ok && unit) tellOrdered([[answer.value.order, ticket, box, unit.unit].map(Number)], []);
   else if (answer.kind === 'refused') tellOrdered([], [[Number(box), answer.refused]]);
@@ -69,7 +62,7 @@ export async function notOpenIn(container) {
   return box && box.withheld.length > 0 ? [
     el('p', {}, text('Not open to everybody in this box:')),
     el('ul', { class: 'lower' }, box.withheld.map((unit) => el('li', {},
-      link(`#/units/${unit.unit}`, words([unit.code, unit.title, unit.dates].filter(Boolean).join(', '))), ' ', unitState(unit)))),
+      link(`#/units/${unit.unit}`, unitWords(unit)), ' ', unitState(unit)))),
     box.more > 0 && el('p', {}, counted(box.more, 'And {number} more unit.', 'And {number} more units.')),
     el('p', { class: 'quiet' }, text('The office refuses an order if there is a draft, or a closed unit without a permit for this reader.'), ' ',
       text('As of the copy of {time}.', { time: answer.value.copy })),

@@ -6,7 +6,7 @@ import { phrase, text } from '../shared/language.js';
 import { deskWords } from '../shared/refusals.js';
 import { STAYED } from './sure.js';
 
-const containerLink = (container) => link(`#/counter/${container}`, text('container {number}', { number: container }));
+export const containerLink = (container) => link(`#/counter/${container}`, text('container {number}', { number: container }));
 export const runLink = (run) => link(`#/runs/${run}`, text('run {run}', { run }));
 export const unitLink = (unit) => link(`#/units/${unit}`, text('unit {unit}', { unit }));
 

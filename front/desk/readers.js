@@ -12,6 +12,7 @@ import { register } from '../shared/routes.js';
 import { asOf, askIfPast, sureOrStayed } from './days.js';
 import { lookAtNewestTicket } from './looks.js';
 import { knownCards, newestTicket, readCards, readerLink } from './names.js';
+import { findInCopy } from './night_copy.js';
 import { suggestedLastDay } from './new_ticket.js';
 import { paced, progress } from './pace.js';
 import { card, notDone, said } from './parts.js';
@@ -118,7 +119,9 @@ async function askFirst({ name, until }) {
 async function askIfKnown(name) {
   const newest = await newestTicket();
   if (newest !== null) await readCards(newest, (done) => done < LOOKED_AT);
-  const same = namesOf().filter(([, known]) => isSameName(known, name)).map(([ticket]) => ticket);
+  const copy = await findInCopy(name);
+  const known = new Map([...(copy.ok ? copy.value.readers : []).map((one) => [one.ticket, one.name]), ...namesOf()]);
+  const same = [...known].filter(([, one]) => isSameName(one, name)).map(([ticket]) => ticket);
   if (name === '' || same.length === 0) return null;
   return sureOrStayed(text('There is a reader of this name'), text('Register another reader of this name'), [
     el('ul', {}, same.slice(0, SHOWN).map((ticket) => el('li', {}, readerLink(ticket)))),

@@ -6,6 +6,7 @@ import { textField } from '../shared/fields.js';
 import { text } from '../shared/language.js';
 import { numberOf } from '../shared/numbers.js';
 import { findInCopy } from './night_copy.js';
+import { containerLink } from './parts.js';
 
 export const NO_UNIT = { ok: false, kind: 'refused', refused: 'UnknownUnit' };
 
@@ -29,8 +30,20 @@ export async function unitNamed(typed) {
 /** What the copy of the night has of a unit, as one line; nothing if it has none, or if the service is away. */
 export async function unitLine(typed) {
   const unit = typed.trim() === '' ? null : await unitMeant(typed);
-  return unit ? [el('p', {}, words([unit.code, unit.title, unit.dates].filter(Boolean).join(', ')), ' ', unitState(unit), ' ',
+  return unit ? [el('p', {}, unitWords(unit), ' ', unitState(unit), ' ',
     el('span', { class: 'quiet' }, text('As of the copy of {time}.', { time: unit.copy })))] : [];
+}
+
+/** What staff know a unit by. */
+export const unitWords = ({ code, title, dates, level }) => words([code, title, dates, level].filter(Boolean).join(', '));
+
+const BOXES = [text('It is in no container.'), text('It is in:')];
+
+/** The boxes of a unit, with their places. several: what is said above them if there is more than one. */
+export function boxesOf({ boxes }, several = BOXES[1]) {
+  return [el('p', {}, BOXES[boxes.length] ?? several),
+    boxes.length > 0 && el('ul', { class: 'lower' }, boxes.map(({ container, name, location }) =>
+      el('li', {}, words([name, location].filter(Boolean).join(', ')), ' ', containerLink(container))))].filter(Boolean);
 }
 
 /** What staff must know of a unit that is not open to everybody. */

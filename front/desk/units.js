@@ -15,7 +15,7 @@ import { card, heldContainer, lookUp, notDone, problem, said, unitLink } from '.
 import { permitForm, permitList } from './permits.js';
 import { removeForm } from './removal.js';
 import { may } from './signed_in.js';
-import { NO_UNIT, unitField, unitLine, unitNamed } from './unit_field.js';
+import { boxesOf, NO_UNIT, unitField, unitLine, unitMeant, unitNamed } from './unit_field.js';
 
 export async function unitsPage(number) {
   const field = textField('unit', text('Unit'), { hint: text('Its reference code, its number, or words of its title.'), maxlength: 200 });
@@ -23,9 +23,11 @@ export async function unitsPage(number) {
   if (!number) return { title: text('Units'), focus: field.querySelector('input'), content: [el('h1', {}, text('Units')), look, await tops()] };
   const page = el('div', { role: 'region', 'aria-label': text('What the public sees'), tabindex: 0 });
   const view = { number, head: el('div', {}), page };
+  const boxes = el('div', {});
+  unitMeant(number).then((unit) => boxes.replaceChildren(...(unit ? boxesOf(unit) : [])));
   await show(view);
   return { title: text('Unit {unit}', { unit: number }), content: [
-    el('h1', {}, text('Unit {unit}', { unit: number })), view.head,
+    el('h1', {}, text('Unit {unit}', { unit: number })), view.head, boxes,
     el('div', { class: 'cards' }, may('archivist') && changes(view), card(text('Another unit'), look)),
     el('h2', {}, text('What the public sees')), view.page,
   ] };
