@@ -51,7 +51,7 @@ class State(NamedTuple):
         page.size(*DESK)
         names = vars(office or SimpleNamespace())
         (page.at if self.site == "desk" else page.visit)(self.address.format(**names))
-        page.wait("!document.querySelector('.waiting')")
+        page.wait("!document.querySelector('.waiting:not(.state)')")  # My orders has an order's state
         for name, *values in self.steps:
             if name == "answer_with":  # the last value is a body
                 values = [*values[:-1], values[-1].encode()]
