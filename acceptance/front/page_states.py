@@ -33,8 +33,10 @@ def settle(asks: Asks) -> SimpleNamespace:
     asks.command("/desk/permit", ticket=1, unit=minutes, until=FAR)
     few = asks.office.folder / "few.csv"  # a file whose header would empty units
     few.write_text("legacyId,title\n1,Hull Dock Company\n")
+    asks.office.serve_my("--messages", "yes")
+    first, second = [asks.read(f"/my/{ticket}")["address"].rpartition("/")[2] for ticket in (1, 2)]
     return SimpleNamespace(fonds=fonds, minutes=minutes, file=minutes + 3, plans=plans, hebrew=hebrew, closed=closed, box=box,
-                           few=few)
+                           few=few, first=first, second=second)
 
 
 class State(NamedTuple):
