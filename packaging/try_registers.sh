@@ -54,7 +54,7 @@ reader() {
     record-office-restore "$copy" >/tmp/said
     is 'the reader is erased' record-office-erase "$ticket"
     cp /tmp/out /tmp/said
-    for place in "$copy " "$lists/readers.html " "${office%/*}/replaced-"; do is "it is said that the name is in $place" grep "the name is still in $place" /tmp/said; done
+    for place in "$copy " "$lists/readers.html " "${office%/*}/replaced-"; do is "it is said that the name is in $place" grep "the name of ticket $ticket is still in $place" /tmp/said; done
     same 'no byte of the file or its log has the name' "$(cat $office* | grep -c Zephyrine)" 0
     same 'nor does the desk know what was wanted' "$(wanted "$ticket")" ''
     same 'nor a permit' "$(ask "permits/$ticket")" '[]'
