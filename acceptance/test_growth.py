@@ -109,15 +109,16 @@ def counted(program: Program, room: Path, setup: Setup, n: int) -> dict[str, int
     office, part = Office.create(program, room / f"{setup.__name__}{n}", client.LARGE), f"{setup.__name__}{n}.part"
     assert {it.status for it in client.replies(office.talk(*setup(n)).expect_success())} == {200}
     shapes = {who: ask(n) for who, (of, _, ask) in SHAPES.items() if of is setup}
-    # a session's first change costs more, and a question may have to read all marks: neither is counted
-    asked = b"".join([READERS[0], *(FONDS + request for request in shapes.values())])
+    # A session's first change costs more, and a question after a change may read all marks: neither is counted. What is counted
+    # first comes right after an opening, which has read them.
+    asked = READERS[0] + FONDS.join(shapes.values())
     tool = ["valgrind", "--tool=callgrind", "--dump-after=write", f"--callgrind-out-file={room / part}"]
     ended = subprocess.run([*tool, program.path, "talk", "--store", office.store], input=asked, capture_output=True)
     answered, parts = client.replies(ended.stdout), sorted(room.glob(f"{part}.*"), key=lambda it: int(it.suffix[1:]))
-    assert [it.status for it in answered[2::2]] == [409 if "refused" in who else 200 for who in shapes]
+    assert [it.status for it in answered[1::2]] == [409 if "refused" in who else 200 for who in shapes]
     assert len(parts) - len(answered) in (0, 1), "an answer is one write, but a long one, the last, is two"
     counts = [int(it.read_text().partition("\nsummary: ")[2].split()[0]) for it in parts]
-    return dict(zip(shapes, [*counts[2:len(answered) - 1:2], sum(counts[len(answered) - 1:])]))
+    return dict(zip(shapes, [*counts[1:len(answered) - 1:2], sum(counts[len(answered) - 1:])]))
 
 
 @pytest.mark.needs("valgrind")
