@@ -109,8 +109,8 @@ def counted(program: Program, room: Path, setup: Setup, n: int) -> dict[str, int
     office, part = Office.create(program, room / f"{setup.__name__}{n}", client.LARGE), f"{setup.__name__}{n}.part"
     assert {it.status for it in client.replies(office.talk(*setup(n)).expect_success())} == {200}
     shapes = {who: ask(n) for who, (of, _, ask) in SHAPES.items() if of is setup}
-    # A session's first change costs more, and a question after a change may read all marks: neither is counted. What is counted
-    # first comes right after an opening, which has read them.
+    # A session's first change costs more, and a question after a change may read all marks: neither is counted. The first that
+    # is counted comes right after an opening, which has read them.
     asked = READERS[0] + FONDS.join(shapes.values())
     tool = ["valgrind", "--tool=callgrind", "--dump-after=write", f"--callgrind-out-file={room / part}"]
     ended = subprocess.run([*tool, program.path, "talk", "--store", office.store], input=asked, capture_output=True)
