@@ -43,7 +43,9 @@ function figureOf(svg, code) {
   const figure = document.createElement('figure');
   figure.className = 'coded';
   const words = document.createElement('figcaption');
-  words.textContent = code;
+  const said = document.createElement('bdi'); // it has no language
+  said.textContent = code;
+  words.append(said);
   figure.append(svg, words);
   return figure;
 }

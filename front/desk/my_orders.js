@@ -9,7 +9,7 @@ import { sureOrStayed } from './days.js';
 import { card, notDone, said } from './parts.js';
 
 /** An address with its code; without a code if nobody has told the address of the readers' site. */
-export const addressParts = (own) => (own.path ? addressCode(own) : el('p', { class: 'coded' }, own.address));
+export const addressParts = (own) => (own.path ? addressCode(own) : el('p', { class: 'coded' }, el('bdi', {}, own.address)));
 
 export function myOrdersCard(ticket, own) {
   const shown = el('div', {}, addressParts(own));
